@@ -1,0 +1,79 @@
+//! The port's functions, as the static library exports them: a slice goes as its pointer and its length. The safe functions
+//! below add nothing.
+
+extern "C" {
+    fn lattrugone_decode_dss_length(raw: u16) -> u16;
+    fn lattrugone_is_full_continuation_len(raw: u16) -> u8;
+    fn lattrugone_decode_continuation_len(raw: u16) -> usize;
+    fn lattrugone_decide_continuation(raw: u16) -> u8;
+    fn lattrugone_type_from_byte(b: u8, words: *mut u64, words_len: usize) -> u8;
+    fn lattrugone_flags_from_byte(b: u8) -> u8;
+    fn lattrugone_head_parse(
+        data: *const u8,
+        data_len: usize,
+        words: *mut u64,
+        words_len: usize,
+    ) -> u8;
+    fn lattrugone_head_serialize(
+        length: u16,
+        dss_type: u8,
+        flags: u8,
+        correlation_id: u16,
+        room: *mut u8,
+        room_len: usize,
+        words: *mut u64,
+        words_len: usize,
+    ) -> u8;
+}
+
+pub fn decode_dss_length(raw: u16) -> u16 {
+    unsafe { lattrugone_decode_dss_length(raw) }
+}
+
+pub fn is_full_continuation_len(raw: u16) -> u8 {
+    unsafe { lattrugone_is_full_continuation_len(raw) }
+}
+
+pub fn decode_continuation_len(raw: u16) -> usize {
+    unsafe { lattrugone_decode_continuation_len(raw) }
+}
+
+pub fn decide_continuation(raw: u16) -> u8 {
+    unsafe { lattrugone_decide_continuation(raw) }
+}
+
+pub fn type_from_byte(b: u8, words: &mut [u64]) -> u8 {
+    unsafe { lattrugone_type_from_byte(b, words.as_mut_ptr(), words.len()) }
+}
+
+pub fn flags_from_byte(b: u8) -> u8 {
+    unsafe { lattrugone_flags_from_byte(b) }
+}
+
+pub fn head_parse(data: &[u8], words: &mut [u64]) -> u8 {
+    unsafe { lattrugone_head_parse(data.as_ptr(), data.len(), words.as_mut_ptr(), words.len()) }
+}
+
+/// What a head is written from: its numbers, and the bytes of its type and its flags.
+#[derive(Clone, Copy)]
+pub struct Head {
+    pub length: u16,
+    pub dss_type: u8,
+    pub flags: u8,
+    pub correlation_id: u16,
+}
+
+pub fn head_serialize(head: Head, room: &mut [u8], words: &mut [u64]) -> u8 {
+    unsafe {
+        lattrugone_head_serialize(
+            head.length,
+            head.dss_type,
+            head.flags,
+            head.correlation_id,
+            room.as_mut_ptr(),
+            room.len(),
+            words.as_mut_ptr(),
+            words.len(),
+        )
+    }
+}

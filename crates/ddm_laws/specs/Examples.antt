@@ -1,0 +1,19 @@
+-- Some values, computed.
+use Prim.Native.Nat.{ℕ}
+use mathlib.Core.Path.{_≡_, refl}
+use mathlib.Core.List.{List, [], _∷_}
+use Rattle.wire.specs.Bytes.{last}
+use Rattle.ddm_object.specs.Objects.{object, parsed}
+use Rattle.ddm_laws.specs.Reads.{made}
+
+inline-example : parsed (0 ∷ 7 ∷ 0x21 ∷ 0x10 ∷ 1 ∷ 2 ∷ 3 ∷ 9 ∷ []) 0 ≡ object (made 0x2110 (1 ∷ 2 ∷ 3 ∷ []) 7)
+unfolding parsed
+inline-example = refl
+
+extended-example : parsed (0x80 ∷ 8 ∷ 0x21 ∷ 0x10 ∷ 0 ∷ 0 ∷ 0 ∷ 2 ∷ 5 ∷ 6 ∷ 9 ∷ []) 0 ≡ object (made 0x2110 (5 ∷ 6 ∷ []) 10)
+unfolding parsed
+extended-example = refl
+
+last-example : last 4 66051 ≡ 0 ∷ 1 ∷ 2 ∷ 3 ∷ []
+unfolding last
+last-example = refl

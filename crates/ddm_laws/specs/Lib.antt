@@ -1,0 +1,13 @@
+pub mod Forms
+pub mod Taken
+pub mod Fronts
+pub mod Reads
+pub mod Layout
+pub mod Markers
+pub mod Sums
+pub mod Walks
+pub mod AllWalks
+pub mod Lists
+pub mod BuiltOctets
+pub mod Complete
+pub mod Examples

@@ -1,0 +1,1 @@
+// The laws of the definitions of DDM: theorems alone (specs/).

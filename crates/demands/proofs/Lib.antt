@@ -1,0 +1,10 @@
+pub mod WrittenFrames
+pub mod ReadBack
+pub mod Standing
+pub mod SpoiltFrames
+pub mod Salvaging
+pub mod Covering
+pub mod WrittenLayout
+pub mod FaithfulLayout
+pub mod Impostors
+pub mod ExampleRun

@@ -1,0 +1,16 @@
+// What a frame is: definitions (specs/), and the records that the reader and the salvage reading share.
+use dss_head::DssHeader;
+
+// Whose rules hold while a frame is read: the reader's, which are the Rust's, or salvage's.
+pub enum Rules {
+    Reader,
+    Salvage,
+}
+
+// A frame's record: its head, where its payload lies in the lent room, and of how many segments it was made.
+pub struct DssFrame {
+    pub header: DssHeader,
+    pub payload_at: usize,
+    pub payload_len: usize,
+    pub segments: usize,
+}

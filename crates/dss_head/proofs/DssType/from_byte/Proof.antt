@@ -1,0 +1,24 @@
+-- `dss_head::DssType::from_byte` meets its contract: the low four bits are the number of the arm, or none of the four.
+use borrow.Author.Tests.{ne-eqb}
+use Rattle.dss_head.proofs.DssType.from_byte.Statement.{statement}
+use Rattle.dss_head.proofs.DssType.from_byte.Tie as tie
+
+returns : tie.Need-returns
+returns c = rw (c .match .keys1)
+
+returns-2 : tie.Need-returns-2
+returns-2 c = rw (c .match .keys2)
+
+returns-3 : tie.Need-returns-3
+returns-3 c = rw (c .match .keys3)
+
+returns-4 : tie.Need-returns-4
+returns-4 c = rw (c .match .keys4)
+
+returns-5 : tie.Need-returns-5
+returns-5 c =
+    let r = c .match .rest in
+    simp (ne-eqb _ _ (r .0 .0 .0 .1), ne-eqb _ _ (r .0 .0 .1), ne-eqb _ _ (r .0 .1), ne-eqb _ _ (r .1))
+
+pub from-byte-spec : {M : Type 1} → statement M
+from-byte-spec = tie.close (tie.spec returns returns-2 returns-3 returns-4 returns-5)

@@ -1,0 +1,11 @@
+pub mod RawLengths
+pub mod Continuations
+pub mod Chunks
+pub mod Ends
+pub mod Looks
+pub mod Bounds
+pub mod AllFrames
+pub mod Salvaging
+pub mod Framed
+pub mod Writing
+pub mod HeadLaws

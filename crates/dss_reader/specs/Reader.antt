@@ -1,0 +1,94 @@
+-- The reader's state, its calls' answers, and what lent rooms and rows hold after each: document 01, "Reading".
+use Prim.Native.Nat.{ℕ}
+use mathlib.Core.Path.{_≡_}
+use mathlib.Core.Bool.{Bool, true, false}
+use mathlib.Core.List.{List}
+use lib.Dec.{leb}
+use lib.ListN.{length}
+use Rattle.wire.specs.Bytes.{pick, laid, landed}
+use Rattle.answer.specs.Rooms.{noRoom, outOfBounds, bothFit}
+use Rattle.answer.specs.declared.Refusal.the-variants.{Incomplete}
+use Rattle.answer.specs.declared.Refused.{Refused}
+use Rattle.dss_frame.specs.Segments.{Walk, whole, short, dead, payloadOf, endOf, frameWalk}
+use Rattle.dss_frame.specs.Reading.{Frame, Read, frame, refused, readAt}
+use Rattle.dss_frame.specs.Frames.{AllRead, frames, refusedAll, allFrames}
+use Rattle.dss_frame.specs.Records.{recordOf, recordsOf, payloadsOf}
+use Rattle.dss_frame.specs.declared.DssFrame.{DssFrame}
+use Rattle.dss_frame.specs.declared.Rules.the-variants.{Reader}
+use Rattle.dss_reader.specs.declared.DssReader.{DssReader}
+use Rattle.dss_reader.specs.declared.FrameEnd.{FrameEnd}
+use Rattle.dss_reader.specs.declared.FrameEnd.the-variants.{End, Refused as NoEnd}
+use Rattle.dss_reader.specs.declared.FrameRead.{FrameRead}
+use Rattle.dss_reader.specs.declared.FrameRead.the-variants.{Frame as Gives, Refused as NotRead}
+use Rattle.dss_reader.specs.declared.FramesRead.{FramesRead}
+use Rattle.dss_reader.specs.declared.FramesRead.the-variants.{Frames, Refused as NoneRead}
+
+abbrev pub standsAt : ℕ → DssReader
+standsAt p = record { position = p }
+
+-- a refusal leaves the position "at the refused head" for 2, 3 and 7, and "where it was" for 1, 9 and 10: its place says both
+abbrev pub leftAt : Refused → DssReader
+leftAt r = standsAt (r .place)
+
+-- ---- the frame's end
+
+-- "The walk over continuations yields the end offset or "not whole"". Why it isn't whole, the base's answer 1 forgets
+abbrev pub endFound : ℕ → Walk → FrameEnd
+endFound p (whole gs) = End (endOf p gs)
+endFound p short = NoEnd (record { why = Incomplete; place = p })
+endFound p (dead q) = NoEnd (record { why = Incomplete; place = p })
+
+-- `complete_frame_len`; `first_complete_frame_len` is that at 0
+unfoldable pub frameEnd : List ℕ → ℕ → FrameEnd
+unfolding endOf frameWalk
+frameEnd s p = pick (leb p (length s)) (endFound p (frameWalk Reader s p)) (NoEnd (outOfBounds p (length s)))
+
+-- `has_complete_frame`
+abbrev pub isEnd : FrameEnd → Bool
+isEnd (End e) = true
+isEnd (NoEnd r) = false
+
+-- ---- one frame
+
+-- "Last comes 9, position unmoved"; "`next_frame` hands its one record back by value and needs no row"
+abbrev pub given : List ℕ → ℕ → ℕ → Read → FrameRead
+given s p size (refused r) = NotRead r (leftAt r)
+given s p size (frame f) =
+    pick (leb (length (payloadOf s (f .segments))) size) (Gives (recordOf s 0 f) (standsAt (endOf p (f .segments))))
+    (NotRead (noRoom p (length (payloadOf s (f .segments))) 0) (standsAt p))
+
+-- what the room then holds
+abbrev pub roomRead : List ℕ → List ℕ → Read → List ℕ
+roomRead s room (frame f) = laid room 0 (payloadOf s (f .segments))
+roomRead s room (refused r) = room
+
+pub record NextFrame (s : List ℕ) (p : ℕ) (room : List ℕ) (r : FrameRead) (after : List ℕ) : Type 0 where
+  pub answers : r ≡ given s p (length room) (readAt Reader s p)
+  pub room-is : after ≡ roomRead s room (readAt Reader s p)
+
+-- ---- all frames
+
+-- whether the payloads fit the room and the records the row
+abbrev pub framesFit : List ℕ → List Frame → ℕ → ℕ → Bool
+framesFit s fs size rows = bothFit (length (payloadsOf s fs)) size (length fs) rows
+
+-- "At 2, 3, 7 the position stands at the refused head; at 9 and 10 where it was"
+abbrev pub givenAll : List ℕ → ℕ → ℕ → ℕ → AllRead → FramesRead
+givenAll s p size rows (refusedAll r) = NoneRead r (leftAt r)
+givenAll s p size rows (frames fs q) =
+    pick (framesFit s fs size rows) (Frames (length fs) (length (payloadsOf s fs)) (standsAt q))
+    (NoneRead (noRoom p (length (payloadsOf s fs)) (length fs)) (standsAt p))
+
+-- what the room and the row then hold
+abbrev pub roomAll : List ℕ → List ℕ → ℕ → AllRead → List ℕ
+roomAll s room rows (refusedAll r) = room
+roomAll s room rows (frames fs q) = landed (framesFit s fs (length room) rows) room (payloadsOf s fs)
+
+abbrev pub rowAll : List ℕ → ℕ → List DssFrame → AllRead → List DssFrame
+rowAll s size row (refusedAll r) = row
+rowAll s size row (frames fs q) = landed (framesFit s fs size (length row)) row (recordsOf s 0 fs)
+
+pub record ReadAllFrames (s : List ℕ) (p : ℕ) (room : List ℕ) (row : List DssFrame) (r : FramesRead) (roomAfter : List ℕ) (rowAfter : List DssFrame) : Type 0 where
+  pub answers : r ≡ givenAll s p (length room) (length row) (allFrames s p)
+  pub room-is : roomAfter ≡ roomAll s room (length row) (allFrames s p)
+  pub row-is : rowAfter ≡ rowAll s (length room) row (allFrames s p)

@@ -1,0 +1,37 @@
+-- `gateway::head::lattrugone_decide_continuation` meets its contract: each arm gives the number of the decision that led there.
+use borrow.Author.Needs.{needs}
+use Rattle.gateway.proofs.head.lattrugone_decide_continuation.Statement.{statement}
+use Rattle.gateway.proofs.head.lattrugone_decide_continuation.Tie as tie
+
+decide-continuation-requires : tie.Need-decide-continuation-requires
+decide-continuation-requires c κs = search needs
+
+enum-told : tie.Need-enum-told
+enum-told c = search needs
+
+enum-told-2 : tie.Need-enum-told-2
+enum-told-2 c = search needs
+
+enum-told-3 : tie.Need-enum-told-3
+enum-told-3 c = search needs
+
+returns : tie.Need-returns
+returns c = rw (← c .before .before .decide-continuation .ensures, c .enum-told .given .1)
+
+returns-2 : tie.Need-returns-2
+returns-2 c = rw (← c .before .before .decide-continuation .ensures, c .enum-told2 .given .1)
+
+returns-3 : tie.Need-returns-3
+returns-3 c = rw (← c .before .before .decide-continuation .ensures, c .enum-told3 .given .1)
+
+pub lattrugone-decide-continuation-spec : {M : Type 1} → statement M
+lattrugone-decide-continuation-spec =
+    tie.close
+    (tie.spec
+    decide-continuation-requires
+    enum-told
+    enum-told-2
+    enum-told-3
+    returns
+    returns-2
+    returns-3)

@@ -1,0 +1,19 @@
+-- DRDA volume 3's layout of a DDM object or parameter, as a predicate on bytes: written from the volume's rules and from
+-- nothing of the port.
+use Prim.Native.Nat.{ℕ, _+_, _≤_}
+use mathlib.Core.Path.{_≡_}
+use mathlib.Core.List.{List, _++_}
+use lib.ListN.{length}
+use Rattle.wire.specs.Bytes.{two, spelled}
+
+-- how many length bytes an extended header may have: 0x8008, 0x800A, 0x800C
+pub data Width : ℕ → Type 0 where
+  four : Width 4
+  six : Width 6
+  eight : Width 8
+
+-- Length, code point, data. A whole length up to 0x7FFF stands in the two bytes. Else these hold the high bit and the
+-- header's length, 4 + k, and the k bytes behind the code point hold the length of the data.
+pub data Ddm (cp : ℕ) (d : List ℕ) : List ℕ → Type 0 where
+  inline : length d + 4 ≤ 0x7FFF → Ddm cp d (two (length d + 4) ++ (two cp ++ d))
+  extended : (k : ℕ) (ls : List ℕ) → Width k → length ls ≡ k → spelled 0 ls ≡ length d → Ddm cp d (two (0x8004 + k) ++ (two cp ++ (ls ++ d)))

@@ -1,0 +1,2 @@
+pub mod DssLayout
+pub mod DdmLayout

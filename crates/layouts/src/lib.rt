@@ -1,0 +1,1 @@
+// DRDA volume 3's layouts: predicates alone (specs/).

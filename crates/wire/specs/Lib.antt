@@ -1,0 +1,6 @@
+pub mod Bytes
+pub mod Laws
+pub mod Octets
+pub mod Places
+pub mod Splice
+pub mod Widths
