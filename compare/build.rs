@@ -1,7 +1,9 @@
-// Links the port's static library, which `rt staticlib gateway` writes.
+// Links the port's static libraries, which `rt staticlib` writes: one for each crate that exports.
 fn main() {
     let folder = concat!(env!("CARGO_MANIFEST_DIR"), "/../target/staticlib");
     println!("cargo:rustc-link-search=native={folder}");
-    println!("cargo:rustc-link-lib=static=gateway");
-    println!("cargo:rerun-if-changed={folder}/libgateway.a");
+    for name in ["gateway", "gateway_writer"] {
+        println!("cargo:rustc-link-lib=static={name}");
+        println!("cargo:rerun-if-changed={folder}/lib{name}.a");
+    }
 }

@@ -1,7 +1,9 @@
 //! Answers in words: document 01's number, the place, then a refusal's values or the result. The Rust's errors become numbers
 //! here, and a call that answers in words is made here.
+use crate::hex;
 use crate::lent::Lent;
 use db2_proto::ProtoError;
+use std::fmt::{Debug, Formatter};
 
 pub type Words = [u64; 8];
 
@@ -38,9 +40,27 @@ pub struct Answer {
     number: u8,
     words: Vec<u64>,
     /// The bytes laid down in the room.
-    room: Vec<u8>,
+    room: Bytes,
     /// Whether all else is as it was: in and beside the words, the room, the run.
     rest_kept: bool,
+}
+
+/// Bytes of which a few are shown, and of more than those also how many they are and a sum that tells them apart.
+#[derive(PartialEq, Default)]
+pub struct Bytes(pub Vec<u8>);
+
+/// As many are shown.
+const SHOWN: usize = 24;
+
+impl Debug for Bytes {
+    fn fmt(&self, out: &mut Formatter) -> std::fmt::Result {
+        if self.0.len() <= SHOWN {
+            return write!(out, "{}", hex(&self.0));
+        }
+        let sum = |sum: u64, b: &u8| sum.wrapping_mul(0x100_0000_01B3) ^ *b as u64;
+        let (shown, sum) = (hex(&self.0[..SHOWN]), self.0.iter().fold(0, sum));
+        write!(out, "{shown}.. ({} bytes, sum {sum:016X})", self.0.len())
+    }
 }
 
 /// What the port should come to where `words` words are lent: eight are laid down where there are eight.
@@ -52,7 +72,7 @@ pub fn expected(answer: Words, words: usize) -> Answer {
         } else {
             answer.to_vec()
         },
-        room: Vec::new(),
+        room: Bytes::default(),
         rest_kept: true,
     }
 }
@@ -66,11 +86,11 @@ pub fn answered(lent: &mut Lent<u64>, words: usize, call: impl FnOnce(&mut [u64]
     } else {
         lent_words[..8].to_vec()
     };
-    let rest_kept = lent.holds_only(&laid);
+    let rest_kept = lent.holds_only(0, &laid);
     Answer {
         number,
         words: laid,
-        room: Vec::new(),
+        room: Bytes::default(),
         rest_kept,
     }
 }
@@ -78,25 +98,32 @@ pub fn answered(lent: &mut Lent<u64>, words: usize, call: impl FnOnce(&mut [u64]
 impl Answer {
     /// Besides, these bytes laid down.
     pub fn laying(mut self, bytes: &[u8]) -> Answer {
-        self.room = bytes.to_vec();
+        self.room = Bytes(bytes.to_vec());
         self
     }
 
     /// How many bytes are laid down.
     pub fn bytes_laid(&self) -> usize {
-        self.room.len()
+        self.room.0.len()
     }
 
-    /// Besides, so many bytes at the start of a lent room, and all others kept.
-    pub fn with_room(mut self, room: &Lent<u8>, laid: usize) -> Answer {
-        self.room = room.start(laid).to_vec();
-        self.rest_kept = self.rest_kept && room.holds_only(&self.room);
-        self
+    /// Besides, so many bytes of a lent room from a place on, and all others kept.
+    pub fn with_room(self, room: &Lent<u8>, at: usize, laid: usize) -> Answer {
+        // Where nothing is laid down, the place can be beyond the room.
+        let at = if laid == 0 { 0 } else { at };
+        let bytes = room.part(at, laid);
+        let kept = room.holds_only(at, bytes);
+        self.laying(bytes).and(kept)
     }
 
     /// Besides, that a run that was lent to be read is as it was.
-    pub fn with_run(mut self, run: &Lent<u8>, bytes: &[u8]) -> Answer {
-        self.rest_kept = self.rest_kept && run.holds_only(bytes);
+    pub fn with_run(self, run: &Lent<u8>, bytes: &[u8]) -> Answer {
+        let kept = run.holds_only(0, bytes);
+        self.and(kept)
+    }
+
+    fn and(mut self, kept: bool) -> Answer {
+        self.rest_kept = self.rest_kept && kept;
         self
     }
 }

@@ -103,7 +103,7 @@ fn serialize(tally: &mut Tally, lent: &mut Buffers, head: Head, room: usize, wor
     let port = answered(&mut lent.words, words, |words| {
         port::head_serialize(head, lent_room, words)
     });
-    let port = port.with_room(&lent.room, rust.bytes_laid());
+    let port = port.with_room(&lent.room, 0, rust.bytes_laid());
     let [high, low] = head.length.to_be_bytes();
     let [first, second] = head.correlation_id.to_be_bytes();
     let input = [
@@ -130,7 +130,7 @@ fn serialized(tally: &mut Tally, lent: &mut Buffers) {
         for room in 0..=8 {
             serialize(tally, lent, head, room, 8);
         }
-        let bytes = lent.room.start(6).to_vec();
+        let bytes = lent.room.part(0, 6).to_vec();
         let of_port = DssHeader::parse(&bytes);
         tally.same("head_serialize, read", &bytes, of_port, read_back(head));
         parse(tally, lent, &bytes, 8);

@@ -83,23 +83,24 @@ impl<T: Element> Lent<T> {
         for place in first..behind {
             unsafe { *self.pages.add(place) = T::pattern(self.time, place) };
         }
-        self.slice()
+        self.again()
     }
 
     /// The same, with these elements in it.
     pub fn lend_copy(&mut self, elements: &[T]) -> &mut [T] {
         self.lend(elements.len()).copy_from_slice(elements);
-        self.slice()
+        self.again()
     }
 
-    fn slice(&mut self) -> &mut [T] {
+    /// The buffer lent last, once more, with what it holds now.
+    pub fn again(&mut self) -> &mut [T] {
         unsafe { std::slice::from_raw_parts_mut(self.pages.add(self.from), self.len) }
     }
 
-    /// The first elements of the buffer, as they are now.
-    pub fn start(&self, count: usize) -> &[T] {
-        assert!(count <= self.len);
-        unsafe { std::slice::from_raw_parts(self.pages.add(self.from), count) }
+    /// So many elements of the buffer from a place on, as they are now.
+    pub fn part(&self, at: usize, count: usize) -> &[T] {
+        assert!(at + count <= self.len);
+        unsafe { std::slice::from_raw_parts(self.pages.add(self.from + at), count) }
     }
 
     fn looked_at(&self) -> (usize, usize) {
@@ -107,18 +108,19 @@ impl<T: Element> Lent<T> {
         (self.from.saturating_sub(MARGIN), behind)
     }
 
-    /// Whether the buffer starts with these elements and all else, in it and beside it, is as it was filled.
-    pub fn holds_only(&self, written: &[T]) -> bool {
-        assert!(written.len() <= self.len);
+    /// Whether the buffer has these elements from a place on, and all else, in it and beside it, is as it was filled.
+    pub fn holds_only(&self, at: usize, written: &[T]) -> bool {
         let (first, behind) = self.looked_at();
-        let end = self.from + written.len();
-        (first..behind).all(|place| {
-            let is = unsafe { *self.pages.add(place) };
-            if self.from <= place && place < end {
-                is == written[place - self.from]
-            } else {
-                is == T::pattern(self.time, place)
-            }
-        })
+        let start = self.from + at;
+        self.part(at, written.len()) == written
+            && self.as_filled(first, start)
+            && self.as_filled(start + written.len(), behind)
+    }
+
+    /// Whether the elements between two places of the pages are as they were filled. Looks at all, which is fast.
+    fn as_filled(&self, first: usize, behind: usize) -> bool {
+        let altered =
+            |place: usize| unsafe { *self.pages.add(place) } != T::pattern(self.time, place);
+        !(first..behind).fold(false, |any, place| any | altered(place))
     }
 }

@@ -6,6 +6,7 @@ mod head;
 mod lengths;
 mod lent;
 mod port;
+mod writer;
 
 use std::fmt::Debug;
 
@@ -40,7 +41,7 @@ impl Tally {
     }
 }
 
-fn hex(bytes: &[u8]) -> String {
+pub fn hex(bytes: &[u8]) -> String {
     if bytes.is_empty() {
         return "no bytes".to_string();
     }
@@ -93,5 +94,6 @@ fn main() {
     };
     lengths::compare(&mut tally);
     head::compare(&mut tally, &mut chance, cases);
+    writer::compare(&mut tally, &mut chance, cases);
     tally.end();
 }

@@ -24,7 +24,11 @@ extern "C" {
         words: *mut u64,
         words_len: usize,
     ) -> u8;
+    fn lattrugone_frame_size(payload_len: usize) -> usize;
+    fn lattrugone_next_correlation_id(id: u16) -> u16;
 }
+
+// ---- module 1
 
 pub fn decode_dss_length(raw: u16) -> u16 {
     unsafe { lattrugone_decode_dss_length(raw) }
@@ -76,4 +80,63 @@ pub fn head_serialize(head: Head, room: &mut [u8], words: &mut [u64]) -> u8 {
             words.len(),
         )
     }
+}
+
+// ---- module 2
+
+pub fn frame_size(payload_len: usize) -> usize {
+    unsafe { lattrugone_frame_size(payload_len) }
+}
+
+pub fn next_correlation_id(id: u16) -> u16 {
+    unsafe { lattrugone_next_correlation_id(id) }
+}
+
+/// What a call of the writer lends.
+pub struct Loan<'a> {
+    pub payload: &'a [u8],
+    pub room: &'a mut [u8],
+    pub words: &'a mut [u64],
+}
+
+/// Declares functions that take numbers and a loan.
+macro_rules! lending {
+    ($($export:ident: $name:ident($($number:ident: $kind:ty),*);)*) => {
+        extern "C" {
+            $(fn $export(
+                $($number: $kind,)*
+                payload: *const u8,
+                payload_len: usize,
+                room: *mut u8,
+                room_len: usize,
+                words: *mut u64,
+                words_len: usize,
+            ) -> u8;)*
+        }
+        $(pub fn $name($($number: $kind,)* loan: Loan) -> u8 {
+            let Loan { payload, room, words } = loan;
+            unsafe {
+                $export(
+                    $($number,)*
+                    payload.as_ptr(),
+                    payload.len(),
+                    room.as_mut_ptr(),
+                    room.len(),
+                    words.as_mut_ptr(),
+                    words.len(),
+                )
+            }
+        })*
+    };
+}
+
+lending! {
+    lattrugone_write_dss_full: write_dss_full(id: u16, fill: usize, dss_type: u8, flags: u8);
+    lattrugone_write_dss: write_dss(id: u16, fill: usize, dss_type: u8, chained: u8);
+    lattrugone_write_request: write_request(id: u16, fill: usize, chained: u8);
+    lattrugone_write_object: write_object(id: u16, fill: usize, chained: u8);
+    lattrugone_write_object_same_corr: write_object_same_corr(id: u16, fill: usize, chained: u8);
+    lattrugone_write_request_next_same_corr: write_request_next_same_corr(id: u16, fill: usize, chained: u8);
+    lattrugone_build_dss_request: build_dss_request(id: u16, chained: u8);
+    lattrugone_build_dss_object: build_dss_object(id: u16, chained: u8);
 }

@@ -8,3 +8,12 @@ pub mod WrittenLayout
 pub mod FaithfulLayout
 pub mod Impostors
 pub mod ExampleRun
+pub mod AllFramesBack
+pub mod AllFramesExample
+pub mod LongerRuns
+pub mod LongerLooks
+pub mod Longer
+pub mod LongerAll
+pub mod LongerExamples
+pub mod ReaderKeeps
+pub mod SalvageKeeps

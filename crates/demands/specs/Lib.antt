@@ -1,3 +1,5 @@
 pub mod Demands
 pub mod Table
 pub mod Edges
+pub mod AllFrames
+pub mod Longer

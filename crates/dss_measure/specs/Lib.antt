@@ -1,1 +1,6 @@
 pub mod Measure
+pub mod Walks
+pub mod Looks
+pub mod Sofars
+pub mod Absorbing
+pub mod Readings

@@ -2,9 +2,10 @@
 use Prim.Native.Nat.{ℕ, _+_, _%_}
 use mathlib.Core.Path.{_≡_}
 use mathlib.Core.Bool.{Bool}
-use mathlib.Core.List.{List}
-use lib.ListN.{length}
-use Rattle.wire.specs.Bytes.{laid}
+use mathlib.Core.List.{List, []}
+use lib.Dec.{leb}
+use lib.ListN.{length, take}
+use Rattle.wire.specs.Bytes.{pick, laid}
 use Rattle.answer.specs.Rooms.{roomFor}
 use Rattle.answer.specs.declared.RoomFor.{RoomFor}
 use Rattle.answer.specs.declared.RoomFor.the-variants.{Enough, Refused as Refuses}
@@ -29,6 +30,10 @@ withCorrelation w correlation = record { «correlation_id» = correlation; fill 
 -- "`next_correlation_id` goes from 65,535 to 0"
 abbrev pub nextCorrelation : DssWriter → DssWriter
 nextCorrelation w = withCorrelation w ((w .«correlation_id» + 1) % 65536)
+
+-- what was written: the room up to the fill mark; of a mark beyond the room, nothing
+abbrev pub filled : ℕ → List ℕ → List ℕ
+filled fill room = pick (leb fill (length room)) (take fill room) []
 
 -- ---- a frame
 

@@ -4,7 +4,7 @@ use mathlib.Core.Path.{_≡_, sym, _∙_}
 use mathlib.Core.List.{List}
 use contract.Lifetimes.{Lfts}
 use denote.Ref.{RefT, at-last}
-use Rattle.gateway.specs.Words.{Answered}
+use Rattle.gateway_words.proofs.Unique.{answered-one}
 use Rattle.gateway.proofs.head.lattrugone_decode_dss_length.Reads as decode-dss-length
 use Rattle.gateway.proofs.head.lattrugone_is_full_continuation_len.Reads as is-full-continuation-len
 use Rattle.gateway.proofs.head.lattrugone_decode_continuation_len.Reads as decode-continuation-len
@@ -13,10 +13,6 @@ use Rattle.gateway.proofs.head.lattrugone_type_from_byte.Reads as type-
 use Rattle.gateway.proofs.head.lattrugone_flags_from_byte.Reads as flags-from-byte
 use Rattle.gateway.proofs.head.lattrugone_head_parse.Reads as head-parse
 use Rattle.gateway.proofs.head.lattrugone_head_serialize.Reads as head-serialize
-
--- an answer in words leaves no choice
-pub answered-one : {answer words : List ℕ} {r r′ : ℕ} {l l′ : List ℕ} → Answered answer words r l → Answered answer words r′ l′ → (r ≡ r′) × (l ≡ l′)
-answered-one p q = (p .number-is ∙ sym (q .number-is), p .words-are ∙ sym (q .words-are))
 
 module _ (raw r r′ : ℕ) where
   pub decode-dss-length-one : decode-dss-length.Post tt (raw, tt) r (raw, tt) → decode-dss-length.Post tt (raw, tt) r′ (raw, tt) → r ≡ r′

@@ -2,16 +2,17 @@
 ghost use mathlib.Core.Path.{_≡_};
 ghost use Rattle.wire.specs.Bytes.{pick};
 ghost use Rattle.dss_head.specs.Heads.{lengthOf, isFull, continuationLength, chunkOf, typeAt, flagsOf, flagsByte, headAt};
-ghost use Rattle.gateway.specs.Words.{Answered, chunkNumber, typeWords, headWords, writtenWords, writtenRoom};
-use crate::words::put_done;
-use crate::words::put_laid;
-use crate::words::put_refusal;
+ghost use Rattle.gateway_words.specs.Words.{Answered};
+ghost use Rattle.gateway.specs.HeadWords.{chunkNumber, typeWords, headWords, writtenWords, writtenRoom};
 use dss_head::Chunk;
 use dss_head::DssFlags;
 use dss_head::DssHeader;
 use dss_head::DssType;
 use dss_head::HeadFound;
 use dss_head::TypeFound;
+use gateway_words::put_done;
+use gateway_words::put_laid;
+use gateway_words::put_refusal;
 
 #[no_mangle]
 pub extern "C" fn lattrugone_decode_dss_length(raw: u16) -> u16

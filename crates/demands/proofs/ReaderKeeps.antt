@@ -1,0 +1,112 @@
+-- What demand 2 says of the reader's calls: whatever result and room their contracts allow, on a written frame alone and on a run
+-- of written frames that stand by themselves, with enough room.
+use Prim.Native.Nat.{ℕ, suc, _≤_}
+use native.Mathlib.Omega.{arith}
+use mathlib.Core.Path.{_≡_, refl, ap, ap₂, _∙_}
+use mathlib.Core.Bool.{true}
+use mathlib.Core.List.{List, [], _∷_, _++_}
+use lib.ListN.{length}
+use borrow.Author.Tests.{le-leb}
+use Rattle.wire.specs.Bytes.{splice, laid}
+use Rattle.wire.specs.Laws.{pick-yes, and-both}
+use Rattle.wire.specs.Splice.{laid-fits}
+use Rattle.answer.specs.declared.Refusal.the-variants.{Incomplete}
+use Rattle.dss_frame.specs.Segments.{payloadOf}
+use Rattle.dss_frame.specs.Reading.{Frame}
+use Rattle.dss_frame.specs.Records.{recordOf, recordsOf, payloadsOf}
+use Rattle.dss_frame.specs.Written.{Sent, written}
+use Rattle.dss_frame.specs.declared.DssFrame.{DssFrame}
+use Rattle.dss_reader.specs.Reader.{standsAt, given, roomRead, NextFrame, framesFit, givenAll, roomAll, rowAll, ReadAllFrames}
+use Rattle.dss_reader.specs.declared.FrameRead.{FrameRead}
+use Rattle.dss_reader.specs.declared.FrameRead.the-variants.{Frame as Hands, Refused as NotRead}
+use Rattle.dss_reader.specs.declared.FramesRead.{FramesRead}
+use Rattle.dss_reader.specs.declared.FramesRead.the-variants.{Frames}
+use Rattle.demands.specs.Demands.{Sendable, Unreadable, Gives}
+use Rattle.demands.specs.AllFrames.{AllAlone, AllGive, joined}
+use Rattle.demands.proofs.ReadBack.{reads-back, not-whole}
+use Rattle.demands.proofs.AllFramesBack.{reads-all}
+
+-- ---- one frame
+
+-- the frame comes back, its payload at the room's start, the rest of the room as it was, and the run wholly consumed
+pub record Back (f : Sent) (room : List ℕ) (r : FrameRead) (after : List ℕ) : Type 0 where
+  pub read : Frame
+  pub is : r ≡ Hands (recordOf (written f) 0 read) (standsAt (length (written f)))
+  pub gives : Gives f (written f) read
+  pub room-is : after ≡ splice room 0 (f .payload)
+
+pub frame-back : (f : Sent) → Sendable f → (Unreadable f → ⊥) → (room : List ℕ) → length (f .payload) ≤ length room → (r : FrameRead) (after : List ℕ)
+    → NextFrame (written f) 0 room r after → Back f room r after
+frame-back f v u room h r after p =
+    let b = reads-back f v u in
+    let g = b .read in
+    let e : payloadOf (written f) (g .segments) ≡ f .payload = b .gives .payload in
+    let fits : length (payloadOf (written f) (g .segments)) ≤ length room = omega (arith, ap length e) in
+    record {
+      read = g;
+      is =
+          p .answers
+          ∙ ap (given (written f) 0 (length room)) (b .is)
+          ∙ pick-yes _ _ (le-leb (length (payloadOf (written f) (g .segments))) (length room) fits)
+          ∙ ap (λ (n : ℕ). Hands (recordOf (written f) 0 g) (standsAt n)) (b .consumed);
+      gives = b .gives;
+      room-is =
+          p .room-is
+          ∙ ap (roomRead (written f) room) (b .is)
+          ∙ ap (laid room 0) e
+          ∙ laid-fits room 0 (f .payload) (omega arith);
+    }
+
+-- "With a payload of 32,761 plus one or more times 32,765 bytes, the reader says it isn't whole", and leaves room and position
+pub frame-not-whole : (f : Sent) → Sendable f → Unreadable f → (room : List ℕ) (r : FrameRead) (after : List ℕ)
+    → NextFrame (written f) 0 room r after → (r ≡ NotRead (record { why = Incomplete; place = 0 }) (standsAt 0)) × (after ≡ room)
+frame-not-whole f v u room r after p = (
+  p .answers ∙ ap (given (written f) 0 (length room)) (not-whole f v u),
+  p .room-is ∙ ap (roomRead (written f) room) (not-whole f v u),
+)
+
+-- ---- a run of them
+
+-- the payloads that were sent, end to end
+unfoldable pub payloads : List Sent → List ℕ
+payloads [] = []
+payloads (f ∷ fs) = f .payload ++ payloads fs
+
+given-payloads : (s : List ℕ) (fs : List Sent) (gs : List Frame) → AllGive s fs gs → (payloadsOf s gs ≡ payloads fs) × (length gs ≡ length fs)
+unfolding AllGive payloads payloadsOf
+given-payloads s [] [] a = (refl, refl)
+given-payloads s [] (g ∷ gs) a = absurd a
+given-payloads s (f ∷ fs) [] a = absurd a
+given-payloads s (f ∷ fs) (g ∷ gs) a =
+    let b = given-payloads s fs gs (a .1) in
+    (ap₂ (λ (x y : List ℕ). x ++ y) (a .0 .payload) (b .0), ap suc (b .1))
+
+-- every frame comes back, in order: records in the row, payloads end to end at the room's start, all else as it was
+pub record AllBack (fs : List Sent) (room : List ℕ) (row : List DssFrame) (r : FramesRead) (roomAfter : List ℕ) (rowAfter : List DssFrame) : Type 0 where
+  pub read : List Frame
+  pub is : r ≡ Frames (length fs) (length (payloads fs)) (standsAt (length (joined written fs)))
+  pub gives : AllGive (joined written fs) fs read
+  pub room-is : roomAfter ≡ splice room 0 (payloads fs)
+  pub row-is : rowAfter ≡ splice row 0 (recordsOf (joined written fs) 0 read)
+
+pub frames-back : (fs : List Sent) → AllAlone fs → (room : List ℕ) (row : List DssFrame) → length (payloads fs) ≤ length room → length fs ≤ length row
+    → (r : FramesRead) (roomAfter : List ℕ) (rowAfter : List DssFrame)
+    → ReadAllFrames (joined written fs) 0 room row r roomAfter rowAfter → AllBack fs room row r roomAfter rowAfter
+frames-back fs a room row h k r roomAfter rowAfter p =
+    let s : List ℕ = joined written fs in
+    let b = reads-all fs a in
+    let gs = b .read in
+    let e = given-payloads s fs gs (b .gives) in
+    let fit : framesFit s gs (length room) (length row) ≡ true =
+    and-both _ _ (le-leb (length (payloadsOf s gs)) (length room) (omega (arith, ap length (e .0)))) (le-leb (length gs) (length row) (omega (arith, e .1))) in
+    record {
+      read = gs;
+      is =
+          p .answers
+          ∙ ap (givenAll s 0 (length room) (length row)) (b .is)
+          ∙ pick-yes _ _ fit
+          ∙ ap₂ (λ (n m : ℕ). Frames n m (standsAt (length s))) (e .1) (ap length (e .0));
+      gives = b .gives;
+      room-is = p .room-is ∙ ap (roomAll s room (length row)) (b .is) ∙ pick-yes _ _ fit ∙ ap (splice room 0) (e .0);
+      row-is = p .row-is ∙ ap (rowAll s (length room) row) (b .is) ∙ pick-yes _ _ fit;
+    }

@@ -1,0 +1,15 @@
+-- `dss_measure::started` meets its contract: it is a part behind the payload of no bytes.
+use mathlib.Core.Path.{refl}
+use mathlib.Core.List.{[]}
+use borrow.Author.Needs.{needs}
+use Rattle.dss_measure.proofs.started.Statement.{statement}
+use Rattle.dss_measure.proofs.started.Tie as tie
+
+grown-requires : tie.Need-grown-requires
+grown-requires c κs = search needs
+
+returns : tie.Need-returns
+returns c = c .grown .ensures [] refl
+
+pub started-spec : {M : Type 1} → statement M
+started-spec = tie.close (tie.spec grown-requires returns)

@@ -1,0 +1,32 @@
+-- `dss_writer::build_dss_request` meets its contract: what a fresh writer lays down stands at the room's first byte.
+use mathlib.Core.Bool.{false}
+use borrow.Author.Needs.{needs}
+use Rattle.dss_head.specs.declared.DssType.the-variants.{Request}
+use Rattle.dss_writer.specs.Writer.{sent}
+use Rattle.dss_writer.specs.Laying.{writes-lays}
+use Rattle.dss_writer.proofs.build_dss_request.Statement.{statement}
+use Rattle.dss_writer.proofs.build_dss_request.Tie as tie
+
+new-requires : tie.Need-new-requires
+new-requires c κs = search needs
+
+write-request-requires : tie.Need-write-request-requires
+write-request-requires c κs = search needs
+
+laid-requires : tie.Need-laid-requires
+laid-requires c κs = search needs
+
+same-length : tie.Need-same-length
+same-length c = search needs
+
+returns : tie.Need-returns
+returns c =
+    let a = c .before .before .before .before .before .before .before .before .args in
+    let w = c .before .before .before .before .before .new in
+    let p = c .before .before .before .write-request in
+    rw (c .laid .ensures)
+    (writes-lays (a .correlation-id) (λ n. sent n Request (a .chained) false (a .payload .now)) (a .room .now) (w .result) (p .result) (p .last .1 .1 .1 .0) (w .ensures) (p .ensures))
+
+pub build-dss-request-spec : {M : Type 1} → statement M
+build-dss-request-spec =
+    tie.close (tie.spec new-requires write-request-requires laid-requires same-length returns)

@@ -1,0 +1,31 @@
+-- A frame's writing and the laying of its answer, taken together: what was written or refused, and the words that say so.
+use Prim.Native.Nat.{ℕ}
+use mathlib.Core.Path.{_≡_}
+use mathlib.Core.List.{List}
+use Rattle.answer.specs.Rooms.{Lays}
+use Rattle.answer.specs.declared.Refused.{Refused}
+use Rattle.answer.specs.declared.Laid.{Laid}
+use Rattle.dss_head.specs.declared.DssType.{DssType}
+use Rattle.dss_head.specs.declared.TypeFound.{TypeFound}
+use Rattle.dss_head.specs.declared.TypeFound.the-variants.{Is, Refused as NoType}
+use Rattle.dss_frame.specs.Written.{Sent}
+use Rattle.dss_writer.specs.Writer.{Writes}
+use Rattle.dss_writer.specs.declared.DssWriter.{DssWriter}
+use Rattle.dss_writer.specs.declared.Wrote.{Wrote}
+use Rattle.gateway_words.specs.Words.{refusalWords, laidWords, Answered}
+use Rattle.gateway_writer.specs.WriterWords.{wroteWords, Sends, Builds}
+
+module _ {found : TypeFound} {w : DssWriter} {f : DssType → Sent} {room words : List ℕ} {r : ℕ} {room′ words′ : List ℕ} where
+  -- a type was found, and a frame of it written
+  pub sends-typed : {t : DssType} {a : Wrote} → found ≡ Is t → Writes w (f t) room a room′ → Answered (wroteWords a) words r words′
+      → Sends found w f room words r room′ words′
+  sends-typed e p q = record { answers = rw (e, ← p .answers) q; room-is = rw e (p .room-is) }
+
+  -- there is no such type, and the room is as it was
+  pub sends-none : {n : Refused} → found ≡ NoType n → room′ ≡ room → Answered (refusalWords n) words r words′ → Sends found w f room words r room′ words′
+  sends-none e k q = record { answers = rw e q; room-is = rw e k }
+
+-- a frame at the room's first byte
+pub builds : {bytes room words : List ℕ} {r : ℕ} {room′ words′ : List ℕ} {a : Laid} → Lays bytes room a room′ → Answered (laidWords a) words r words′
+    → Builds bytes room words r room′ words′
+builds p q = record { answers = rw (← p .answers) q; room-is = p .room-is }
