@@ -2,7 +2,7 @@
 fn main() {
     let folder = concat!(env!("CARGO_MANIFEST_DIR"), "/../target/staticlib");
     println!("cargo:rustc-link-search=native={folder}");
-    for name in ["gateway", "gateway_writer"] {
+    for name in ["gateway", "gateway_writer", "gateway_reader"] {
         println!("cargo:rustc-link-lib=static={name}");
         println!("cargo:rerun-if-changed={folder}/lib{name}.a");
     }

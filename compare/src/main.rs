@@ -6,6 +6,7 @@ mod head;
 mod lengths;
 mod lent;
 mod port;
+mod reader;
 mod writer;
 
 use std::fmt::Debug;
@@ -95,5 +96,6 @@ fn main() {
     lengths::compare(&mut tally);
     head::compare(&mut tally, &mut chance, cases);
     writer::compare(&mut tally, &mut chance, cases);
+    reader::compare(&mut tally, &mut chance, cases);
     tally.end();
 }

@@ -140,3 +140,62 @@ lending! {
     lattrugone_build_dss_request: build_dss_request(id: u16, chained: u8);
     lattrugone_build_dss_object: build_dss_object(id: u16, chained: u8);
 }
+
+// ---- module 3
+
+extern "C" {
+    fn lattrugone_remaining(run: *const u8, run_len: usize, at: usize) -> usize;
+    fn lattrugone_has_frame(run: *const u8, run_len: usize, at: usize) -> u8;
+    fn lattrugone_frame_end(
+        run: *const u8,
+        run_len: usize,
+        at: usize,
+        words: *mut u64,
+        words_len: usize,
+    ) -> u8;
+    fn lattrugone_first_frame_end(
+        run: *const u8,
+        run_len: usize,
+        words: *mut u64,
+        words_len: usize,
+    ) -> u8;
+    fn lattrugone_next_frame(
+        run: *const u8,
+        run_len: usize,
+        at: usize,
+        room: *mut u8,
+        room_len: usize,
+        words: *mut u64,
+        words_len: usize,
+    ) -> u8;
+}
+
+pub fn remaining(run: &[u8], at: usize) -> usize {
+    unsafe { lattrugone_remaining(run.as_ptr(), run.len(), at) }
+}
+
+pub fn has_frame(run: &[u8], at: usize) -> u8 {
+    unsafe { lattrugone_has_frame(run.as_ptr(), run.len(), at) }
+}
+
+pub fn frame_end(run: &[u8], at: usize, words: &mut [u64]) -> u8 {
+    unsafe { lattrugone_frame_end(run.as_ptr(), run.len(), at, words.as_mut_ptr(), words.len()) }
+}
+
+pub fn first_frame_end(run: &[u8], words: &mut [u64]) -> u8 {
+    unsafe { lattrugone_first_frame_end(run.as_ptr(), run.len(), words.as_mut_ptr(), words.len()) }
+}
+
+pub fn next_frame(run: &[u8], at: usize, room: &mut [u8], words: &mut [u64]) -> u8 {
+    unsafe {
+        lattrugone_next_frame(
+            run.as_ptr(),
+            run.len(),
+            at,
+            room.as_mut_ptr(),
+            room.len(),
+            words.as_mut_ptr(),
+            words.len(),
+        )
+    }
+}

@@ -6,6 +6,7 @@ pub mod Salvaging
 pub mod Covering
 pub mod WrittenLayout
 pub mod FaithfulLayout
+pub mod LayoutReads
 pub mod Impostors
 pub mod ExampleRun
 pub mod AllFramesBack

@@ -22,9 +22,9 @@ use Rattle.dss_frame.specs.declared.Rules.{Rules}
 use Rattle.dss_frame.specs.Segments.{Segment, payloadOf, endOf, Walk, dead, frameWalk}
 use Rattle.dss_frame.specs.Reading.{Look, look, Read, frame, refused, Frame, startsExtended, withChained, behindFrame, absorb, absorbFuel, readHead, readWalk, readAt}
 use Rattle.demands.specs.Longer.{Unsettled, few-left, Settled, OfHead, RefusalsStay, SettledStay, Grown, goes-on, refused-behind, FramesGrow, DeadStays}
-use Rattle.dss_laws.specs.Ends.{end-snoc}
+use Rattle.dss_laws.specs.Ends.{end-snoc, payload-append}
 use Rattle.dss_laws.specs.Looks.{Taken, absorb-step}
-use Rattle.demands.proofs.LongerRuns.{picks, payload-append, SameBytes, same-snoc, head-longer, HeadSays, finds, refuses-head, head-says, walk-few, Stays, stays-whole, stays-dead, was-short, frame-stays}
+use Rattle.demands.proofs.LongerRuns.{picks, SameBytes, same-snoc, head-longer, HeadSays, finds, refuses-head, head-says, walk-few, Stays, stays-whole, stays-dead, was-short, frame-stays}
 use Rattle.demands.proofs.LongerLooks.{Looks, finishes, takes, stops, unsettled, look-longer}
 
 -- ---- absorbing goes on from where it is

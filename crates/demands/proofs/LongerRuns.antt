@@ -24,6 +24,7 @@ use Rattle.dss_frame.specs.Rules.{chunkUnder}
 use Rattle.dss_frame.specs.declared.Rules.{Rules}
 use Rattle.dss_frame.specs.Segments.{Segment, payloadOf, bytesOf, Walk, whole, short, dead, behind, continuation, first, step, walkFuel, continuations, frameWalk}
 use Rattle.demands.specs.Longer.{OfHead}
+use Rattle.dss_laws.specs.Ends.{payload-append}
 use Rattle.dss_laws.specs.HeadLaws.{head-moved}
 use Rattle.dss_laws.specs.Continuations.{continuations-step}
 
@@ -51,11 +52,6 @@ part-longer s t a e h =
       | yes k ↦ part-front s t a (e - a) (omega arith)
       | no k ↦ let z : e - a ≡ 0 = omega arith in ap (λ (n : ℕ). take n (drop a (s ++ t))) z ∙ sym (ap (λ (n : ℕ). take n (drop a s)) z)
     ]
-
-pub payload-append : (s : List ℕ) (gs hs : List Segment) → payloadOf s (gs ++ hs) ≡ payloadOf s gs ++ payloadOf s hs
-unfolding payloadOf
-payload-append s [] hs = refl
-payload-append s (g ∷ gs) hs = ap (λ (l : List ℕ). bytesOf s g ++ l) (payload-append s gs hs) ∙ sym (append-assoc (bytesOf s g) (payloadOf s gs) (payloadOf s hs))
 
 -- segments hold the same bytes over the longer run
 abbrev pub SameBytes : List ℕ → List ℕ → List Segment → Type 0

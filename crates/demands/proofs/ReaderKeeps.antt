@@ -2,11 +2,13 @@
 -- of written frames that stand by themselves, with enough room.
 use Prim.Native.Nat.{ℕ, suc, _≤_}
 use native.Mathlib.Omega.{arith}
-use mathlib.Core.Path.{_≡_, refl, ap, ap₂, _∙_}
+use mathlib.Core.Path.{_≡_, refl, ap, ap₂, subst, _∙_}
 use mathlib.Core.Bool.{true}
 use mathlib.Core.List.{List, [], _∷_, _++_}
 use lib.ListN.{length}
 use borrow.Author.Tests.{le-leb}
+use contract.Lifetimes.{Lfts}
+use denote.Ref.{RefT, at-last}
 use Rattle.wire.specs.Bytes.{splice, laid}
 use Rattle.wire.specs.Laws.{pick-yes, and-both}
 use Rattle.wire.specs.Splice.{laid-fits}
@@ -16,11 +18,14 @@ use Rattle.dss_frame.specs.Reading.{Frame}
 use Rattle.dss_frame.specs.Records.{recordOf, recordsOf, payloadsOf}
 use Rattle.dss_frame.specs.Written.{Sent, written}
 use Rattle.dss_frame.specs.declared.DssFrame.{DssFrame}
-use Rattle.dss_reader.specs.Reader.{standsAt, given, roomRead, NextFrame, framesFit, givenAll, roomAll, rowAll, ReadAllFrames}
+use Rattle.dss_take.specs.Take.{roomRead}
+use Rattle.dss_reader.specs.Reader.{standsAt, given, NextFrame, framesFit, givenAll, roomAll, rowAll, ReadAllFrames}
+use Rattle.dss_reader.specs.declared.DssReader.{DssReader}
 use Rattle.dss_reader.specs.declared.FrameRead.{FrameRead}
 use Rattle.dss_reader.specs.declared.FrameRead.the-variants.{Frame as Hands, Refused as NotRead}
 use Rattle.dss_reader.specs.declared.FramesRead.{FramesRead}
 use Rattle.dss_reader.specs.declared.FramesRead.the-variants.{Frames}
+use Rattle.dss_reader.proofs.DssReader.next_frame.Reads as next-frame
 use Rattle.demands.specs.Demands.{Sendable, Unreadable, Gives}
 use Rattle.demands.specs.AllFrames.{AllAlone, AllGive, joined}
 use Rattle.demands.proofs.ReadBack.{reads-back, not-whole}
@@ -110,3 +115,23 @@ frames-back fs a room row h k r roomAfter rowAfter p =
       room-is = p .room-is ∙ ap (roomAll s room (length row)) (b .is) ∙ pick-yes _ _ fit ∙ ap (splice room 0) (e .0);
       row-is = p .row-is ∙ ap (rowAll s (length room) row) (b .is) ∙ pick-yes _ _ fit;
     }
+
+-- ---- of the code
+
+-- over the contract of `next_frame` itself: the run is a written frame, alone, and the reader stands at its first byte
+pub next-frame-back : (κs : Lfts 2) (f : Sent) → Sendable f → (Unreadable f → ⊥) → (reader : DssReader) (run room : RefT (List ℕ)) (r : FrameRead) (after : List ℕ)
+    → reader ≡ standsAt 0 → run .now ≡ written f → length (f .payload) ≤ length (room .now)
+    → next-frame.Post κs (reader, (run, (room, tt))) r (reader, (run, (at-last room after, tt))) → Back f (room .now) r after
+next-frame-back κs f v u reader run room r after e k h p =
+    frame-back f v u (room .now) h r after
+    (subst (λ (s : List ℕ). NextFrame s 0 (room .now) r after) k
+    (subst (λ (d : DssReader). NextFrame (run .now) (d .position) (room .now) r after) e p))
+
+pub next-frame-not-whole : (κs : Lfts 2) (f : Sent) → Sendable f → Unreadable f → (reader : DssReader) (run room : RefT (List ℕ)) (r : FrameRead) (after : List ℕ)
+    → reader ≡ standsAt 0 → run .now ≡ written f
+    → next-frame.Post κs (reader, (run, (room, tt))) r (reader, (run, (at-last room after, tt)))
+    → (r ≡ NotRead (record { why = Incomplete; place = 0 }) (standsAt 0)) × (after ≡ room .now)
+next-frame-not-whole κs f v u reader run room r after e k p =
+    frame-not-whole f v u (room .now) r after
+    (subst (λ (s : List ℕ). NextFrame s 0 (room .now) r after) k
+    (subst (λ (d : DssReader). NextFrame (run .now) (d .position) (room .now) r after) e p))

@@ -33,7 +33,7 @@ pub format-byte : (f : Sent) → format f ≡ typeByte (f .type) + flagsByte (fl
 format-byte f = omega arith
 
 -- the head's bytes, in the volume's order of words
-head-bytes : (f : Sent) (n : ℕ) (x : List ℕ) → two n ++ (rest f ++ x) ≡ headBytes (headOf f n) ++ x
+pub head-bytes : (f : Sent) (n : ℕ) (x : List ℕ) → two n ++ (rest f ++ x) ≡ headBytes (headOf f n) ++ x
 head-bytes f n x = ap (λ (k : ℕ). n / 256 % 256 ∷ n % 256 ∷ 0xD0 ∷ k ∷ f .correlation / 256 % 256 ∷ f .correlation % 256 ∷ x) (format-byte f)
 
 -- bytes that are laid out for a frame say its format and its correlation

@@ -14,7 +14,8 @@ use Rattle.dss_frame.specs.Reading.{readAt, absorb, absorbFuel, look}
 use Rattle.dss_frame.specs.Salvage.{salvaged, salvageFuel}
 use Rattle.dss_frame.specs.declared.Rules.the-variants.{Reader}
 use Rattle.dss_frame.specs.declared.DssFrame.{DssFrame}
-use Rattle.dss_reader.specs.Reader.{given, roomRead}
+use Rattle.dss_take.specs.Take.{roomRead}
+use Rattle.dss_reader.specs.Reader.{given}
 use Rattle.dss_reader.specs.declared.FrameRead.{FrameRead}
 use Rattle.dss_reader.specs.declared.FrameRead.the-variants.{Frame as Gives, Refused as NotRead}
 use Rattle.dss_salvage.specs.SalvageCall.{salvagedRow, salvagedBytes}

@@ -98,7 +98,7 @@ walk-single rules s p n e a b c =
     ∙ pick-yes _ _ (le-leb (be16 s p) (length s - p) (omega arith))
     ∙ ap (λ (k : ℕ). whole (first p k ∷ [])) e
 
-walk-several : (rules : Rules) (s : List ℕ) (p : ℕ) → be16 s p ≡ 65535 → 32767 ≤ length s - p → frameWalk rules s p ≡ behind (first p 32767) (continuations rules s (p + 32767))
+pub walk-several : (rules : Rules) (s : List ℕ) (p : ℕ) → be16 s p ≡ 65535 → 32767 ≤ length s - p → frameWalk rules s p ≡ behind (first p 32767) (continuations rules s (p + 32767))
 unfolding frameWalk
 walk-several rules s p e c =
     pick-no _ _ (le-ltb (length s - p) 6 (omega arith))

@@ -9,7 +9,7 @@ use lib.Dec.{ltb, leb, eqb}
 use lib.ListN.{length, length-append}
 use borrow.Author.Tests.{ltb-false, leb-true}
 use Rattle.wire.specs.Bytes.{and, be16, part, marker}
-use Rattle.wire.specs.Laws.{pick-by, and-split}
+use Rattle.wire.specs.Laws.{pick-by, and-split, part-length}
 use Rattle.answer.specs.declared.Refused.{Refused}
 use Rattle.dss_head.specs.Heads.{headAt}
 use Rattle.dss_head.specs.declared.DssType.{DssType}
@@ -20,13 +20,12 @@ use Rattle.dss_frame.specs.declared.Rules.{Rules}
 use Rattle.dss_frame.specs.declared.Rules.the-variants.{Reader, Salvage}
 use Rattle.dss_frame.specs.Segments.{Segment, bytesOf, first, payloadOf, endOf}
 use Rattle.dss_frame.specs.Reading.{Look, finished, absorbs, refuses, refusal, look, lookAt, follows, ownObject, droppedAt, startsExtended, Read, withChained, absorb}
-use Rattle.dss_laws.specs.Ends.{end-snoc}
+use Rattle.dss_laws.specs.Ends.{end-snoc, payload-one, payload-snoc}
 use Rattle.dss_laws.specs.Looks.{absorb-finished, absorb-absorbs, absorb-refuses}
 use Rattle.dss_measure.specs.declared.Look.the-variants.{Finished, Absorbs, Refuses}
 use Rattle.dss_measure.specs.declared.Measured.the-variants.{Frame as Gives, Refused as NotMeasured}
 use Rattle.dss_measure.specs.declared.Sofar.{Sofar}
 use Rattle.dss_measure.specs.Measure.{lookedOf, sofarOf, extendedBy, measuredOf}
-use Rattle.dss_measure.specs.Walks.{part-length}
 
 -- ---- what a look absorbs
 
@@ -97,18 +96,6 @@ is-refused (absorbs g c) r k = let z : _≡_ {A = ℕ} 0 1 = cc in absurd (omega
 is-refused (refuses r′) r k = cc
 
 -- ---- the payload of one segment more
-
-payload-append : (s : List ℕ) (gs hs : List Segment) → payloadOf s (gs ++ hs) ≡ payloadOf s gs ++ payloadOf s hs
-unfolding payloadOf
-payload-append s [] hs = refl
-payload-append s (g ∷ gs) hs = ap (λ (l : List ℕ). bytesOf s g ++ l) (payload-append s gs hs) ∙ sym (append-assoc (bytesOf s g) (payloadOf s gs) (payloadOf s hs))
-
-payload-one : (s : List ℕ) (g : Segment) → payloadOf s (g ∷ []) ≡ bytesOf s g
-unfolding payloadOf
-payload-one s g = append-nil (bytesOf s g)
-
-payload-snoc : (s : List ℕ) (gs : List Segment) (g : Segment) → payloadOf s (gs ++ (g ∷ [])) ≡ payloadOf s gs ++ bytesOf s g
-payload-snoc s gs g = payload-append s gs (g ∷ []) ∙ ap (λ (l : List ℕ). payloadOf s gs ++ l) (payload-one s g)
 
 -- ---- the state
 

@@ -10,7 +10,7 @@ use lib.ListN.{length, drop, length-append, length-drop}
 use lib.Seq.{length-take-le}
 use borrow.Author.Tests.{le-ltb, lt-ltb, le-leb, lt-leb, eq-eqb, ne-eqb, ltb-true, ltb-false}
 use Rattle.wire.specs.Bytes.{be16, part}
-use Rattle.wire.specs.Laws.{by, pick-yes, pick-no}
+use Rattle.wire.specs.Laws.{by, pick-yes, pick-no, part-length}
 use Rattle.dss_head.specs.declared.Chunk.{Chunk}
 use Rattle.dss_head.specs.declared.Chunk.the-variants.{Dead, Last, Full}
 use Rattle.dss_frame.specs.Rules.{chunkUnder}
@@ -21,10 +21,6 @@ use Rattle.dss_laws.specs.Continuations.{continuations-short, continuations-ste
 use Rattle.dss_measure.specs.declared.Walked.{Walked}
 use Rattle.dss_measure.specs.declared.Walked.the-variants.{Whole, Short, Dead as DeadAt}
 use Rattle.dss_measure.specs.Measure.{walkedOf, walkedAt, adds}
-
--- how long a part of a run is that ends inside it
-pub part-length : (s : List ℕ) (a e : ℕ) → e ≤ length s → length (part s a e) ≡ e - a
-part-length s a e h = length-take-le (e - a) (drop a s) (omega (arith, length-drop a s))
 
 -- a segment before a walk adds one segment and its bytes
 pub walked-behind : (s : List ℕ) (x : ℕ) (g : Segment) (w : Walk) → walkedOf s x (behind g w) ≡ adds 1 (length (bytesOf s g)) (walkedOf s (g .end) w)

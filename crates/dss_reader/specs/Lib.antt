@@ -1,1 +1,5 @@
 pub mod Reader
+pub mod FrameEnds
+pub mod Measuring
+pub mod Taking
+pub mod Gathered

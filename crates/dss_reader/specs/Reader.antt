@@ -5,7 +5,7 @@ use mathlib.Core.Bool.{Bool, true, false}
 use mathlib.Core.List.{List}
 use lib.Dec.{leb}
 use lib.ListN.{length}
-use Rattle.wire.specs.Bytes.{pick, laid, landed}
+use Rattle.wire.specs.Bytes.{pick, landed}
 use Rattle.answer.specs.Rooms.{noRoom, outOfBounds, bothFit}
 use Rattle.answer.specs.declared.Refusal.the-variants.{Incomplete}
 use Rattle.answer.specs.declared.Refused.{Refused}
@@ -15,6 +15,7 @@ use Rattle.dss_frame.specs.Frames.{AllRead, frames, refusedAll, allFrames}
 use Rattle.dss_frame.specs.Records.{recordOf, recordsOf, payloadsOf}
 use Rattle.dss_frame.specs.declared.DssFrame.{DssFrame}
 use Rattle.dss_frame.specs.declared.Rules.the-variants.{Reader}
+use Rattle.dss_take.specs.Take.{roomRead}
 use Rattle.dss_reader.specs.declared.DssReader.{DssReader}
 use Rattle.dss_reader.specs.declared.FrameEnd.{FrameEnd}
 use Rattle.dss_reader.specs.declared.FrameEnd.the-variants.{End, Refused as NoEnd}
@@ -56,11 +57,6 @@ given s p size (refused r) = NotRead r (leftAt r)
 given s p size (frame f) =
     pick (leb (length (payloadOf s (f .segments))) size) (Gives (recordOf s 0 f) (standsAt (endOf p (f .segments))))
     (NotRead (noRoom p (length (payloadOf s (f .segments))) 0) (standsAt p))
-
--- what the room then holds
-abbrev pub roomRead : List ℕ → List ℕ → Read → List ℕ
-roomRead s room (frame f) = laid room 0 (payloadOf s (f .segments))
-roomRead s room (refused r) = room
 
 pub record NextFrame (s : List ℕ) (p : ℕ) (room : List ℕ) (r : FrameRead) (after : List ℕ) : Type 0 where
   pub answers : r ≡ given s p (length room) (readAt Reader s p)

@@ -1,6 +1,21 @@
-// Reading frames off a run: document 01, "Reading". Types and definitions.
+// Reading frames off a run: document 01, "Reading".
+ghost use mathlib.Core.Path.{_≡_};
+ghost use Prim.Native.Nat.{_-_};
+ghost use lib.ListN.{length, drop};
+ghost use Rattle.wire.specs.Bytes.{splice};
+ghost use Rattle.answer.specs.Rooms.{noRoom};
+ghost use Rattle.dss_frame.specs.Frames.{allFrames};
+ghost use Rattle.dss_reader.specs.Reader.{standsAt, frameEnd, isEnd, NextFrame, ReadAllFrames};
+ghost use Rattle.dss_reader.specs.Gathered.{Gathers, recordsIn};
+ghost use Rattle.dss_reader.specs.Measuring.{measuredAll};
+ghost use Rattle.dss_reader.specs.Taking.{allPayloads, Fits};
+ghost use Rattle.dss_reader.specs.declared.FramesRead;
+use answer::Refusal;
 use answer::Refused;
 use dss_frame::DssFrame;
+use dss_frame::Rules;
+use dss_measure::Measured;
+use dss_measure::Walked;
 
 // A reader's state: its place in the run. The run is lent with each call, and a longer one at the same position extends it.
 pub struct DssReader {
@@ -27,4 +42,225 @@ pub enum FramesRead {
         reader: DssReader,
     },
     Refused(Refused, DssReader),
+}
+
+// What measuring all frames comes to: how many they are, how many bytes their payloads have, and where the reading ended.
+pub enum AllMeasured {
+    Frames {
+        count: usize,
+        bytes: usize,
+        end: usize,
+    },
+    Refused(Refused),
+}
+
+// The end of the frame at a place of a run: refusals 10, 1.
+pub(crate) fn frame_end(run: &[u8], at: usize) -> FrameEnd
+    ensures { λ r. ⌜ r ≡ frameEnd (now (run .entry)) at ⌝ }
+{
+    if run.len() < at {
+        let why = Refusal::OutOfBounds {
+            mark: at,
+            length: run.len(),
+        };
+        return FrameEnd::Refused(Refused { why, place: at });
+    }
+    match dss_measure::walk_frame(Rules::Reader, run, at) {
+        Walked::Whole {
+            end,
+            segments: _,
+            payload_len: _,
+        } => FrameEnd::End(end),
+        Walked::Short => {
+            let why = Refusal::Incomplete;
+            FrameEnd::Refused(Refused { why, place: at })
+        }
+        Walked::Dead(_) => {
+            let why = Refusal::Incomplete;
+            FrameEnd::Refused(Refused { why, place: at })
+        }
+    }
+}
+
+// All frames from a place on: reads until 1. Every other refusal but 9.
+pub(crate) fn measure_all(run: &[u8], from: usize) -> AllMeasured
+    ensures { λ r. ⌜ r ≡ measuredAll (now (run .entry)) «from» ⌝ }
+{
+    let mut at = from;
+    let mut count = 0;
+    let mut bytes = 0;
+    loop {
+        match dss_measure::measure(Rules::Reader, run, at) {
+            Measured::Refused(refused) => {
+                let why = refused.why;
+                if why.number() == 1 {
+                    return AllMeasured::Frames {
+                        count,
+                        bytes,
+                        end: at,
+                    };
+                }
+                return AllMeasured::Refused(refused);
+            }
+            Measured::Frame(measure) => {
+                count += 1;
+                bytes += measure.payload_len;
+                at = measure.end;
+            }
+        }
+    }
+}
+
+// The payloads of all frames from a place on, end to end at the room's start.
+pub(crate) fn take_all(run: &[u8], from: usize, room: &mut [u8])
+    requires { ⌜ Fits (now run) «from» (now room) ⌝ }
+    ensures { λ _. ⌜ now (room .exit) ≡ splice (now (room .entry)) 0 (allPayloads (now (run .entry)) (allFrames (now (run .entry)) «from»)) ⌝ }
+{
+    let mut at = from;
+    let mut mark = 0;
+    loop {
+        match dss_take::take(Rules::Reader, run, at, &mut room[mark..]) {
+            Measured::Refused(_) => {
+                return;
+            }
+            Measured::Frame(measure) => {
+                mark += measure.payload_len;
+                at = measure.end;
+            }
+        }
+    }
+}
+
+// 9, with the position where it was.
+pub(crate) fn no_room(at: usize, bytes: usize, records: usize) -> FramesRead
+    ensures { λ r. ⌜ r ≡ FramesRead.Refused (noRoom at bytes records) (standsAt at) ⌝ }
+{
+    let why = Refusal::NoRoom { bytes, records };
+    FramesRead::Refused(Refused { why, place: at }, DssReader { position: at })
+}
+
+// All frames from a place on for a row of so many records, their payloads in the room: all refusals, 9 last.
+pub(crate) fn read_all(run: &[u8], at: usize, room: &mut [u8], rows: usize) -> FramesRead
+    ensures { λ r. ⌜ Gathers (now (run .entry)) at (now (room .entry)) rows r (now (room .exit)) ⌝ }
+{
+    match measure_all(run, at) {
+        AllMeasured::Refused(refused) => {
+            let position = refused.place;
+            FramesRead::Refused(refused, DssReader { position })
+        }
+        AllMeasured::Frames { count, bytes, end } => {
+            if room.len() < bytes {
+                return no_room(at, bytes, count);
+            }
+            if rows < count {
+                return no_room(at, bytes, count);
+            }
+            take_all(run, at, room);
+            FramesRead::Frames {
+                count,
+                bytes,
+                reader: DssReader { position: end },
+            }
+        }
+    }
+}
+
+// How many records an answer has.
+pub(crate) fn records_of(read: FramesRead) -> usize
+    ensures { λ r. ⌜ r ≡ recordsIn read ⌝ }
+{
+    match read {
+        FramesRead::Frames {
+            count,
+            bytes: _,
+            reader: _,
+        } => count,
+        FramesRead::Refused(_, _) => 0,
+    }
+}
+
+impl DssReader {
+    pub fn new() -> Self
+        ensures { λ r. ⌜ r ≡ standsAt 0 ⌝ }
+    {
+        Self { position: 0 }
+    }
+
+    // How many bytes of the run aren't read yet.
+    pub fn remaining(self, run: &[u8]) -> usize
+        ensures { λ r. ⌜ r ≡ length (now (run .entry)) - self .position ⌝ }
+    {
+        let at = self.position;
+        if run.len() <= at {
+            return 0;
+        }
+        run.len() - at
+    }
+
+    // The bytes that aren't read yet.
+    pub fn into_remaining(self, run: &[u8]) -> &[u8]
+        ensures { λ r. ⌜ now r ≡ drop (self .position) (now (run .entry)) ⌝ }
+    {
+        let at = self.position;
+        if run.len() <= at {
+            return &run[run.len()..];
+        }
+        &run[at..]
+    }
+
+    // The byte after the last of the frame at the position.
+    pub fn complete_frame_len(self, run: &[u8]) -> FrameEnd
+        ensures { λ r. ⌜ r ≡ frameEnd (now (run .entry)) (self .position) ⌝ }
+    {
+        frame_end(run, self.position)
+    }
+
+    pub fn has_complete_frame(self, run: &[u8]) -> bool
+        ensures { λ r. ⌜ r ≡ isEnd (frameEnd (now (run .entry)) (self .position)) ⌝ }
+    {
+        match frame_end(run, self.position) {
+            FrameEnd::End(_) => true,
+            FrameEnd::Refused(_) => false,
+        }
+    }
+
+    // The byte after the last of the first frame of a run.
+    pub fn first_complete_frame_len(run: &[u8]) -> FrameEnd
+        ensures { λ r. ⌜ r ≡ frameEnd (now (run .entry)) 0 ⌝ }
+    {
+        frame_end(run, 0)
+    }
+
+    // The next frame, its payload at the room's start: all refusals, 9 last.
+    pub fn next_frame(self, run: &[u8], room: &mut [u8]) -> FrameRead
+        ensures { λ r. ⌜ NextFrame (now (run .entry)) (self .position) (now (room .entry)) r (now (room .exit)) ⌝ }
+    {
+        match dss_take::take(Rules::Reader, run, self.position, room) {
+            Measured::Frame(measure) => {
+                let header = measure.header;
+                let frame = DssFrame {
+                    header,
+                    payload_at: 0,
+                    payload_len: measure.payload_len,
+                    segments: measure.segments,
+                };
+                let position = measure.end;
+                FrameRead::Frame(frame, DssReader { position })
+            }
+            Measured::Refused(refused) => {
+                let position = refused.place;
+                FrameRead::Refused(refused, DssReader { position })
+            }
+        }
+    }
+
+    // All frames from the position on, until one isn't whole: their payloads end to end in the room, their records in the row.
+    pub fn read_all_frames(self, run: &[u8], room: &mut [u8], row: &mut [DssFrame]) -> FramesRead
+        ensures { λ r. ⌜ ReadAllFrames (now (run .entry)) (self .position) (now (room .entry)) (now (row .entry)) r (now (room .exit)) (now (row .exit)) ⌝ }
+    {
+        let at = self.position;
+        let read = read_all(run, at, room, row.len());
+        dss_row::fill_rows(run, at, records_of(read), row);
+        read
+    }
 }

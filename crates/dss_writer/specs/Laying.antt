@@ -24,7 +24,7 @@ use Rattle.dss_writer.specs.declared.DssWriter.{DssWriter}
 use Rattle.dss_writer.specs.declared.Wrote.{Wrote}
 use Rattle.dss_writer.specs.declared.Wrote.the-variants.{Done, Refused as NotWritten}
 use Rattle.dss_writer.specs.Writer.{fresh, wroteBy, wrote, Writes}
-use Rattle.dss_writer.specs.Lent.{tail, back, tail-drop, lent, next}
+use Rattle.wire.specs.Lent.{tail, back, tail-drop, lent, next}
 
 -- ---- chunks
 

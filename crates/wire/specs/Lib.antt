@@ -3,4 +3,5 @@ pub mod Laws
 pub mod Octets
 pub mod Places
 pub mod Splice
+pub mod Lent
 pub mod Widths

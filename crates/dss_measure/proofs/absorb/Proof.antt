@@ -13,7 +13,7 @@ use Rattle.dss_measure.specs.declared.Look.{Look}
 use Rattle.dss_measure.specs.declared.Look.the-variants.{Finished}
 use Rattle.dss_measure.specs.declared.Sofar.{Sofar}
 use Rattle.dss_measure.specs.Measure.{lookedOf}
-use Rattle.dss_measure.specs.Walks.{part-length}
+use Rattle.wire.specs.Laws.{part-length}
 use Rattle.dss_measure.specs.Absorbing.{Absorbing, absorbing-one, absorbing-finished, absorbing-refused, absorbing-there, absorbing-len, absorbing-more}
 use Rattle.dss_measure.proofs.absorb.Statement.{statement}
 use Rattle.dss_measure.proofs.absorb.Tie as tie

@@ -3,7 +3,7 @@ use Prim.Native.Nat.{_-_}
 use native.Mathlib.Omega.{arith}
 use borrow.Author.Needs.{needs}
 use Rattle.wire.specs.Bytes.{part}
-use Rattle.dss_measure.specs.Walks.{part-length}
+use Rattle.wire.specs.Laws.{part-length}
 use Rattle.dss_measure.specs.Sofars.{grown-none, grown-one, grown-more}
 use Rattle.dss_measure.proofs.grown.Statement.{statement}
 use Rattle.dss_measure.proofs.grown.Tie as tie

@@ -2,7 +2,7 @@
 use native.Mathlib.Omega.{arith}
 use mathlib.Core.Path.{refl}
 use Rattle.wire.specs.Bytes.{two}
-use Rattle.dss_writer.specs.Lent.{headed}
+use Rattle.wire.specs.Lent.{headed}
 use borrow.Author.Needs.{needs}
 use Rattle.dss_writer.proofs.lay_chunk.Statement.{statement}
 use Rattle.dss_writer.proofs.lay_chunk.Tie as tie

@@ -8,7 +8,7 @@ use lib.Seq.{length-take-le}
 use Rattle.wire.specs.Bytes.{two, splice}
 use Rattle.wire.specs.Splice.{splice-length}
 use Rattle.dss_frame.specs.Written.{chunks}
-use Rattle.dss_writer.specs.Lent.{tail, tail-drop, tail-length}
+use Rattle.wire.specs.Lent.{tail, tail-drop, tail-length}
 use borrow.Author.Needs.{needs}
 use Rattle.dss_writer.specs.Laying.{Chunked, chunked-none, chunked-length, chunk-room, chunked-more, last-room, chunked-last}
 use Rattle.dss_writer.proofs.lay_chunks.Statement.{statement}

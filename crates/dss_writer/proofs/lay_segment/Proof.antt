@@ -6,7 +6,7 @@ use borrow.Author.Needs.{needs}
 use Rattle.dss_head.specs.Heads.{headBytes}
 use Rattle.dss_frame.specs.Written.{headOf}
 use Rattle.dss_writer.specs.Writer.{sent}
-use Rattle.dss_writer.specs.Lent.{headed}
+use Rattle.wire.specs.Lent.{headed}
 use Rattle.dss_writer.proofs.lay_segment.Statement.{statement}
 use Rattle.dss_writer.proofs.lay_segment.Tie as tie
 

@@ -7,7 +7,7 @@ use lib.ListN.{length, drop}
 use borrow.Author.Needs.{needs}
 use Rattle.dss_frame.specs.Written.{Sent, chunks}
 use Rattle.dss_writer.specs.Writer.{sent}
-use Rattle.dss_writer.specs.Lent.{back, tail-drop, tail-length}
+use Rattle.wire.specs.Lent.{back, tail-drop, tail-length}
 use Rattle.dss_writer.specs.Laying.{single-room, single-laid, first-length, several-room, several-laid}
 use Rattle.dss_writer.proofs.DssWriter.lay_frame.Statement.{statement}
 use Rattle.dss_writer.proofs.DssWriter.lay_frame.Tie as tie

@@ -38,8 +38,8 @@ next r a x s n t y h e k f =
     ∙ ap₂ (λ (l : List ℕ) (m : ℕ). splice l m y) e (sym k)
     ∙ splice-splice r a x y h
 
--- what copying leaves
-copied : (s r : List ℕ) → take (length s) s ++ drop (length s) r ≡ splice r 0 s
+-- what copying s over r leaves
+pub copied : (s r : List ℕ) → take (length s) s ++ drop (length s) r ≡ splice r 0 s
 unfolding splice
 copied s r = ap₂ (λ (x : List ℕ) (n : ℕ). x ++ drop n r) (take-length s) (sym (zero-add (length s)))
 
@@ -47,3 +47,7 @@ copied s r = ap₂ (λ (x : List ℕ) (n : ℕ). x ++ drop n r) (take-length s) 
 pub headed : (r x s : List ℕ) (n : ℕ) (t y : List ℕ) → length x ≡ n → n ≤ length r → s ≡ laid r 0 x
     → t ≡ take (length y) y ++ drop (length y) (tail s n) → back s n t ≡ splice r 0 (x ++ y)
 headed r x s n t y k h e f = next r 0 x s n t y (omega arith) (e ∙ laid-fits r 0 x (omega arith)) (omega arith) (f ∙ copied y (tail s n))
+
+-- y copied into the tail from a on
+pub copied-lent : (r : List ℕ) (a : ℕ) (t y : List ℕ) → t ≡ take (length y) y ++ drop (length y) (tail r a) → back r a t ≡ splice r a y
+copied-lent r a t y e = lent r a t y (e ∙ copied y (tail r a))

@@ -1,0 +1,240 @@
+//! One run, read by both: each call at each position that the Rust comes to, then all frames at once.
+use super::rust::{next, position, read_all, shown, All, Read};
+use crate::answers::{answered, done, expected, refused, Answer, Bytes};
+use crate::lent::Lent;
+use crate::{port, Tally};
+use db2_proto::dss::DssReader;
+
+/// The longest run and the longest room.
+pub const MOST: usize = 700_000;
+
+/// What is lent to the port.
+pub struct Held {
+    run: Lent<u8>,
+    room: Lent<u8>,
+    words: Lent<u64>,
+    turn: usize,
+}
+
+impl Held {
+    pub fn new() -> Held {
+        Held {
+            run: Lent::new(MOST),
+            room: Lent::new(MOST),
+            words: Lent::new(64),
+            turn: 0,
+        }
+    }
+
+    /// Lends a run.
+    fn lend<'a>(&'a mut self, run: &'a [u8]) -> Case<'a> {
+        self.run.lend_copy(run);
+        Case {
+            held: self,
+            run,
+            words: 8,
+        }
+    }
+
+    /// Reads a run frame by frame, by each call, until one is refused; then all of it.
+    pub fn hold(&mut self, tally: &mut Tally, run: &[u8]) {
+        self.hold_in(tally, run, 8)
+    }
+
+    /// The same with so many words lent.
+    pub fn hold_in(&mut self, tally: &mut Tally, run: &[u8], words: usize) {
+        let mut case = self.lend(run);
+        case.words = words;
+        case.first(tally);
+        let mut reader = DssReader::new(run.to_vec());
+        let (mut bytes, mut frames) = (0, 0);
+        loop {
+            let at = position(&reader, run);
+            case.look(tally, &reader, at);
+            let read = next(tally, &mut reader, run, 0);
+            case.next(tally, at, &read);
+            bytes += read.payload_len();
+            match read {
+                Read::Frame { .. } => frames += 1,
+                Read::Refused(last) => {
+                    if words >= 8 {
+                        let rust = read_all(run, last);
+                        case.all(tally, frames, bytes, rust);
+                    }
+                    return;
+                }
+            }
+        }
+    }
+
+    /// Reads at a place that need not be a frame's: the Rust has the bytes from there on. Beyond the run it is 10.
+    pub fn hold_at(&mut self, tally: &mut Tally, run: &[u8], at: usize, words: usize) {
+        let mut case = self.lend(run);
+        case.words = words;
+        let read = match run.get(at..) {
+            Some(rest) => {
+                let mut reader = DssReader::new(rest.to_vec());
+                case.look(tally, &reader, at);
+                next(tally, &mut reader, rest, at)
+            }
+            None => {
+                case.look_beyond(tally, at);
+                Read::Refused(beyond(at, run.len()))
+            }
+        };
+        case.next(tally, at, &read);
+    }
+
+    /// A run that arrives in two parts: what the Rust's `extend` adds is a longer run at the same position. What the first part
+    /// refuses but with 1 stays refused, and nothing is read on.
+    pub fn hold_arriving(&mut self, tally: &mut Tally, run: &[u8], first: usize) {
+        let mut reader = DssReader::new(run[..first].to_vec());
+        let mut part = &run[..first];
+        loop {
+            let at = position(&reader, part);
+            let mut case = self.lend(part);
+            case.look(tally, &reader, at);
+            let read = next(tally, &mut reader, part, 0);
+            case.next(tally, at, &read);
+            if let Read::Refused(answer) = read {
+                if answer[0] != 1 || part.len() == run.len() {
+                    return;
+                }
+                reader.extend(&run[first..]);
+                part = run;
+            }
+        }
+    }
+}
+
+/// 10, of a position.
+fn beyond(at: usize, len: usize) -> [u64; 8] {
+    refused(10, at as u64, &[at as u64, len as u64])
+}
+
+/// A run that is lent, and how many words are.
+struct Case<'a> {
+    held: &'a mut Held,
+    run: &'a [u8],
+    words: usize,
+}
+
+impl Case<'_> {
+    /// What the case is, for the line of a difference: position, the room's length, the run or its first bytes.
+    fn input(&self, at: usize, room: usize) -> Vec<u8> {
+        [&at.to_be_bytes(), &room.to_be_bytes(), shown(self.run)].concat()
+    }
+
+    /// Makes a call that lends the run and the words.
+    fn call(&mut self, call: impl FnOnce(&[u8], &mut [u64]) -> u8) -> Answer {
+        let Held { run, words, .. } = &mut *self.held;
+        let lent = run.again();
+        let port = answered(words, self.words, |words| call(lent, words));
+        port.with_run(run, self.run)
+    }
+
+    /// A frame's end, or 1.
+    fn end(&self, end: Option<usize>, at: usize) -> Answer {
+        let answer = match end {
+            Some(end) => done(&[(at + end) as u64]),
+            None => refused(1, at as u64, &[]),
+        };
+        expected(answer, self.words)
+    }
+
+    fn first(&mut self, tally: &mut Tally) {
+        let rust = self.end(DssReader::first_complete_frame_len(self.run), 0);
+        let port = self.call(port::first_frame_end);
+        tally.same("first_complete_frame_len", shown(self.run), port, rust);
+    }
+
+    /// What the calls say that read nothing: what remains, whether a frame is whole, where it ends.
+    fn look(&mut self, tally: &mut Tally, reader: &DssReader, at: usize) {
+        let run = self.held.run.again();
+        let port = (port::remaining(run, at), port::has_frame(run, at));
+        let rust = (reader.remaining(), reader.has_complete_frame() as u8);
+        tally.same("remaining, has_complete_frame", shown(self.run), port, rust);
+        let rust = self.end(DssReader::first_complete_frame_len(&self.run[at..]), at);
+        let port = self.call(|run, words| port::frame_end(run, at, words));
+        tally.same("complete_frame_len", shown(self.run), port, rust);
+    }
+
+    /// The same beyond the run.
+    fn look_beyond(&mut self, tally: &mut Tally, at: usize) {
+        let run = self.held.run.again();
+        let port = (port::remaining(run, at), port::has_frame(run, at));
+        tally.same(
+            "remaining, has_complete_frame",
+            shown(self.run),
+            port,
+            (0, 0),
+        );
+        let rust = expected(beyond(at, self.run.len()), self.words);
+        let port = self.call(|run, words| port::frame_end(run, at, words));
+        tally.same("complete_frame_len", shown(self.run), port, rust);
+    }
+
+    /// Reads a frame: into a room that is just enough, and in turn into a longer one, one that is short by one, an empty one.
+    fn next(&mut self, tally: &mut Tally, at: usize, read: &Read) {
+        let need = read.payload_len();
+        self.held.turn += 1;
+        let turn = self.held.turn;
+        self.next_in(tally, at, read, need);
+        match turn % 4 {
+            0 => self.next_in(tally, at, read, 0),
+            1 => self.next_in(tally, at, read, need + 1 + turn % 45),
+            _ if need > 0 => self.next_in(tally, at, read, need - 1),
+            _ => (),
+        }
+    }
+
+    fn next_in(&mut self, tally: &mut Tally, at: usize, read: &Read, room: usize) {
+        let rust = read.answer(at, room, self.words);
+        let Held {
+            run,
+            words,
+            room: lent,
+            ..
+        } = &mut *self.held;
+        let (lent_run, lent_room) = (run.again(), lent.lend(room));
+        let port = answered(words, self.words, |words| {
+            port::next_frame(lent_run, at, lent_room, words)
+        });
+        let port = port
+            .with_room(lent, 0, rust.bytes_laid())
+            .with_run(run, self.run);
+        tally.same("next_frame", &self.input(at, room), port, rust);
+    }
+
+    /// All frames: the port's calls one after the other, each payload behind the one before it in one room that is just enough.
+    /// The port's own `read_all_frames` fills a row of structs and isn't exported: its promise names the same reading.
+    fn all(&mut self, tally: &mut Tally, frames: usize, bytes: usize, rust: All) {
+        let Held {
+            run, words, room, ..
+        } = &mut *self.held;
+        room.lend(bytes);
+        let (mut at, mut mark, mut heads) = (0, 0, Vec::new());
+        let last = loop {
+            let lent = words.lend(8);
+            port::next_frame(run.again(), at, &mut room.again()[mark..], lent);
+            let answer: [u64; 8] = (&*lent).try_into().expect("eight words");
+            // One frame more than the Rust has is a difference, and so is a payload beyond the room.
+            if answer[0] != 0 || heads.len() > frames {
+                break answer;
+            }
+            heads.push([answer[2], answer[3], answer[4]]);
+            at = answer[1] as usize;
+            mark = (mark + answer[5] as usize).min(bytes);
+        };
+        if last[0] != 1 {
+            (heads, mark) = (Vec::new(), 0);
+        }
+        let payloads = Bytes(room.part(0, mark).to_vec());
+        let port = All {
+            heads,
+            payloads,
+            last,
+        };
+        tally.same("read_all_frames", &self.input(0, bytes), port, rust);
+    }
+}

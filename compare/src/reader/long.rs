@@ -1,0 +1,117 @@
+//! Long runs: frames around each edge, continuations of each kind, long segments that are absorbed.
+use super::case::Held;
+use super::short::{frame, framed};
+use crate::{Chance, Tally};
+use db2_proto::dss::{DssType, DssWriter};
+
+/// The longest payloads of one to three segments; three below each are tried, and three above.
+pub const EDGES: [usize; 3] = [32_761, 65_526, 98_291];
+pub const AROUND: usize = 3;
+
+/// The raw lengths of continuations that are tried: below a continuation's own two bytes, just above, and around each edge.
+pub const RAWS: [u16; 14] = [
+    0, 1, 2, 3, 4, 5, 6, 0x7FFD, 0x7FFE, 0x7FFF, 0x8000, 0x8001, 0xFFFE, 0xFFFF,
+];
+
+/// The raw lengths of long segments.
+const LONG: [u16; 5] = [0x7FFE, 0x7FFF, 0x8000, 0x8004, 0xFFFE];
+
+/// So many bytes of any kind.
+pub fn any(chance: &mut Chance, len: usize) -> Vec<u8> {
+    let mut bytes = Vec::with_capacity(len + 8);
+    while bytes.len() < len {
+        bytes.extend(chance.next().to_be_bytes());
+    }
+    bytes.truncate(len);
+    bytes
+}
+
+/// The Rust's own frame of a payload.
+pub fn written(dss_type: DssType, same_correlation: bool, payload: &[u8]) -> Vec<u8> {
+    let mut writer = DssWriter::new(0x0102);
+    writer.write_dss_full(dss_type, true, same_correlation, payload);
+    writer.finish()
+}
+
+/// A frame of raw length 0xFFFF with continuations of these raw lengths, each with as many bytes as it takes; and where each
+/// continuation starts, and the end.
+pub fn continued(chance: &mut Chance, format: u8, raws: &[u16]) -> (Vec<u8>, Vec<usize>) {
+    let mut bytes = frame(0xFFFF, format, 7, &any(chance, 32_761));
+    let mut places = vec![bytes.len()];
+    for raw in raws {
+        let takes = match raw {
+            0x7FFF | 0xFFFF => 32_767,
+            other => *other as usize,
+        };
+        bytes.extend(raw.to_be_bytes());
+        bytes.extend(any(chance, takes.max(2) - 2));
+        places.push(bytes.len());
+    }
+    (bytes, places)
+}
+
+/// Frames around each edge as the Rust writes them: alone, before a segment of the same correlation, before a frame; and behind
+/// a frame of their type, where they have the same correlation and, of raw length 0xFFFF, still start a frame of their own.
+pub fn edges(tally: &mut Tally, held: &mut Held, chance: &mut Chance) {
+    let types = [
+        DssType::Request,
+        DssType::Reply,
+        DssType::Object,
+        DssType::Communication,
+    ];
+    for len in EDGES
+        .into_iter()
+        .flat_map(|edge| edge - AROUND..=edge + AROUND)
+    {
+        let payload = any(chance, len);
+        for (dss_type, next) in types.into_iter().zip([0, 0x13, 0x03, 0x14]) {
+            let mut run = written(dss_type, len % 2 == 0, &payload);
+            if next != 0 {
+                run.extend(framed(next, 9, &[0x7F, 0xFE, 0xC1]));
+            }
+            held.hold(tally, &run);
+            let mut run = framed(dss_type.to_byte(), 1, &[0xAA]);
+            run.extend(written(dss_type, true, &payload));
+            held.hold(tally, &run);
+        }
+    }
+}
+
+/// Continuations of each raw length, the first one, behind one of 0xFFFF and behind one of 0x7FFF, with a segment behind them
+/// that could be absorbed: whole, and cut around each continuation's start. A head is refused only where the frame is whole.
+pub fn continuations(tally: &mut Tally, held: &mut Held, chance: &mut Chance) {
+    for before in [&[][..], &[0xFFFF], &[0x7FFF]] {
+        for raw in RAWS {
+            let raws = [before, &[raw]].concat();
+            let (mut run, places) = continued(chance, 0x43, &raws);
+            run.extend(framed(0x13, 7, &[0xC1, 0xC2]));
+            held.hold(tally, &run);
+            for place in places {
+                for cut in [place - 1, place, place + 1, place + 2] {
+                    held.hold(tally, &run[..cut.min(run.len())]);
+                }
+            }
+            run[if raw % 2 == 0 { 2 } else { 3 }] = 0xD5;
+            held.hold(tally, &run);
+        }
+    }
+}
+
+/// Long segments absorbed: each raw length behind each other, with and without a marker behind 80 04, and cut by a byte.
+pub fn absorbed(tally: &mut Tally, held: &mut Held, chance: &mut Chance) {
+    for first in LONG {
+        for second in LONG {
+            for start in [&[0x80, 0x04, 0x24, 0x1B][..], &[0x80, 0x05, 0x24, 0x1B]] {
+                let mut payload = any(chance, first as usize - 6);
+                payload[..4].copy_from_slice(start);
+                let mut run = frame(first, 0x02, 1, &payload);
+                let mut payload = any(chance, second as usize - 6);
+                payload[..4].copy_from_slice(&[0x7F, 0xFE + first as u8 % 2, 0, 0]);
+                run.extend(frame(second, 0x53, 1, &payload));
+                held.hold(tally, &run[..run.len() - 1]);
+                run.extend(framed(0x13, 1, &[0x7F, 0xFF, 0xC1]));
+                held.hold(tally, &run);
+            }
+        }
+    }
+}

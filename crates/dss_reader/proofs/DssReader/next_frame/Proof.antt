@@ -1,0 +1,45 @@
+-- `dss_reader::DssReader::next_frame` meets its contract: what taking answered, as the reader's answer.
+use Rattle.dss_measure.specs.declared.Measured.the-variants.{Frame as Measures, Refused as NotMeasured}
+use Rattle.dss_reader.specs.Taking.{next-is}
+use borrow.Author.Needs.{needs}
+use Rattle.dss_reader.proofs.DssReader.next_frame.Statement.{statement}
+use Rattle.dss_reader.proofs.DssReader.next_frame.Tie as tie
+
+take-requires : tie.Need-take-requires
+take-requires c κs = search needs
+
+enum-known-measure : tie.Need-enum-known-measure
+enum-known-measure c = search needs
+
+enum-known-refused : tie.Need-enum-known-refused
+enum-known-refused c = search needs
+
+same-length : tie.Need-same-length
+same-length c = search needs
+
+returns : tie.Need-returns
+returns c =
+    let k = c .before .before .before .before .before .before in
+    let a = k .before .before .before .before .args in
+    next-is (a .run .now) (a .self .position) (a .room .now) (Measures _) (k .take .result) _ (k .take .ensures) (c .before .before .measure .given .1)
+
+same-length-2 : tie.Need-same-length-2
+same-length-2 c = search needs
+
+returns-2 : tie.Need-returns-2
+returns-2 c =
+    let k = c .before .before .before .before .before in
+    let a = k .before .before .before .before .args in
+    next-is (a .run .now) (a .self .position) (a .room .now) (NotMeasured _) (k .take .result) _ (k .take .ensures) (c .before .refused .given .1)
+
+pub next-frame-spec : {M : Type 1} → statement M
+next-frame-spec =
+    tie.close
+    (tie.spec
+    take-requires
+    enum-known-measure
+    enum-known-refused
+    same-length
+    returns
+    same-length-2
+    returns-2)

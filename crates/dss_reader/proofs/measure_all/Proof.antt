@@ -1,0 +1,88 @@
+-- `dss_reader::measure_all` meets its contract. The loop's invariant: the frames from the first place come to those from the present
+-- one, behind the frames and the payload so far. The measure is what is left of the run.
+use Prim.Native.Nat.{_-_, _≤_}
+use native.Mathlib.Omega.{arith}
+use mathlib.Core.Path.{_≡_, sym, _∙_}
+use lib.ListN.{length}
+use borrow.Author.Needs.{needs}
+use Rattle.dss_frame.specs.declared.Rules.the-variants.{Reader}
+use Rattle.dss_frame.specs.Reading.{refused, readAt}
+use Rattle.dss_row.specs.Measures.{Measures, measures, measured-not}
+use Rattle.dss_reader.specs.Measuring.{measuredAll, addsAll, adds-none, all-frame, all-end, all-refused}
+use Rattle.dss_reader.proofs.measure_all.Statement.{statement}
+use Rattle.dss_reader.proofs.measure_all.Tie as tie
+
+abbrev Inv-loop : tie.InvT-loop
+Inv-loop run from at₀ count₀ bytes₀ at count bytes = (count ≤ at) × (bytes ≤ at) × (measuredAll run from ≡ addsAll count bytes (measuredAll run at))
+
+abbrev μ-loop : tie.MeasureT-loop
+μ-loop run from at₀ count₀ bytes₀ at count bytes = length run - at
+
+loop-holds : tie.Need-loop-holds Inv-loop μ-loop
+loop-holds c = (omega arith, omega arith, adds-none _)
+
+measure-requires : tie.Need-measure-requires Inv-loop μ-loop
+measure-requires c κs = search needs
+
+enum-known-refused : tie.Need-enum-known-refused Inv-loop μ-loop
+enum-known-refused c = search needs
+
+number-requires : tie.Need-number-requires Inv-loop μ-loop
+number-requires c κs = search needs
+
+-- the refusal that was found
+not-read : (c : tie.After-known-told Inv-loop μ-loop)
+    → (let m = c .before .before .before .before in
+    readAt Reader (m .before .before .args .run .now) (m .loop .at) ≡ refused (c .before .refused .given .0 .0))
+not-read c = measured-not Reader _ _ _ (sym (c .before .before .before .measure .ensures) ∙ c .before .refused .given .1)
+
+returns : tie.Need-returns Inv-loop μ-loop
+returns c =
+    let n = c .before .before in
+    sym (n .before .before .before .before .loop .inv .2 ∙ all-end _ _ _ _ _ (not-read n) (sym (c .before .number .ensures) ∙ c .if1 .taken))
+
+returns-2 : tie.Need-returns-2 Inv-loop μ-loop
+returns-2 c =
+    let n = c .before .before in
+    sym (n .before .before .before .before .loop .inv .2 ∙ all-refused _ _ _ _ _ (not-read n) (λ e. c .if1 .left (c .before .number .ensures ∙ e)))
+
+enum-known-measure : tie.Need-enum-known-measure Inv-loop μ-loop
+enum-known-measure c = search needs
+
+-- what the measure is of
+measured : (c : tie.After-known-told2 Inv-loop μ-loop)
+    → (let m = c .before .before .before .before in
+    Measures Reader (m .before .before .args .run .now) (m .loop .at) (c .before .measure2 .given .0 .0))
+measured c = measures Reader _ _ _ (sym (c .before .before .before .measure .ensures) ∙ c .before .measure2 .given .1)
+
+add-count : tie.Need-add-count Inv-loop μ-loop
+add-count c = omega (arith, measured c)
+
+add-bytes : tie.Need-add-bytes Inv-loop μ-loop
+add-bytes c = omega (arith, measured (c .before))
+
+loop-less : tie.Need-loop-less Inv-loop μ-loop
+loop-less c = omega (arith, measured (c .before))
+
+loop-again : tie.Need-loop-again Inv-loop μ-loop
+loop-again c =
+    let w = measured (c .before) in
+    (omega arith, omega arith, c .before .before .before .before .before .loop .inv .2 ∙ all-frame _ _ _ _ _ w)
+
+pub measure-all-spec : {M : Type 1} → statement M
+measure-all-spec =
+    tie.close
+    (tie.spec
+    Inv-loop
+    μ-loop
+    loop-holds
+    measure-requires
+    enum-known-refused
+    number-requires
+    returns
+    returns-2
+    enum-known-measure
+    add-count
+    add-bytes
+    loop-less
+    loop-again)

@@ -1,0 +1,120 @@
+-- The parts that `read_all_frames` is made of: what the payloads' part answers, how many records an answer has, and that those are the
+-- definition's.
+use Prim.Native.Nat.{ℕ, _≤_, _<_}
+use native.Mathlib.Omega.{arith}
+use mathlib.Core.Path.{_≡_, refl, sym, ap, ap₂, _∙_}
+use mathlib.Core.Bool.{Bool, true, false}
+use mathlib.Core.List.{List}
+use lib.Dec.{leb}
+use lib.ListN.{length}
+use borrow.Author.Tests.{leb-true, le-leb, lt-leb}
+use Rattle.wire.specs.Bytes.{and, splice}
+use Rattle.wire.specs.Laws.{by, pick-yes, pick-no, and-both, and-split, and-no}
+use Rattle.answer.specs.Rooms.{noRoom}
+use Rattle.answer.specs.declared.Refused.{Refused}
+use Rattle.dss_frame.specs.Frames.{AllRead, frames, refusedAll, allFrames}
+use Rattle.dss_frame.specs.Records.{payloadsOf}
+use Rattle.dss_frame.specs.declared.DssFrame.{DssFrame}
+use Rattle.dss_row.specs.Rows.{recordsFrom, startsAt}
+use Rattle.dss_row.specs.RowLaws.{records-none, records-all, splice-nothing}
+use Rattle.dss_reader.specs.declared.FramesRead.{FramesRead}
+use Rattle.dss_reader.specs.declared.FramesRead.the-variants.{Frames, Refused as NoneRead}
+use Rattle.dss_reader.specs.Measuring.{Counted}
+use Rattle.dss_reader.specs.Taking.{allPayloads, Fits}
+use Rattle.dss_reader.specs.Reader.{standsAt, leftAt, framesFit, givenAll, roomAll, rowAll, ReadAllFrames}
+
+-- the answer for a row of so many records, and what the room then holds
+pub record Gathers (s : List ℕ) (p : ℕ) (room : List ℕ) (rows : ℕ) (r : FramesRead) (after : List ℕ) : Type 0 where
+  pub answers : r ≡ givenAll s p (length room) rows (allFrames s p)
+  pub room-is : after ≡ roomAll s room rows (allFrames s p)
+
+-- any refusal but 9
+pub gathers-refused : (s : List ℕ) (p : ℕ) (room : List ℕ) (rows : ℕ) (x : Refused) → allFrames s p ≡ refusedAll x → Gathers s p room rows (NoneRead x (leftAt x)) room
+gathers-refused s p room rows x e =
+    record { answers = sym (ap (givenAll s p (length room) rows) e); room-is = sym (ap (roomAll s room rows) e) }
+
+module _ (room : List ℕ) (rows : ℕ) {s : List ℕ} {p count bytes end : ℕ} (w : Counted s p count bytes end) where
+  abbrev fits : Bool
+  fits = framesFit s (w .read) (length room) rows
+
+  -- the bytes don't fit, or the records don't
+  pub wide-bytes : length room < bytes → fits ≡ false
+  wide-bytes h = rw (lt-leb (length (payloadsOf s (w .read))) (length room) (omega (arith, w .long)))
+
+  pub wide-records : rows < count → fits ≡ false
+  wide-records h =
+      ap (and (leb (length (payloadsOf s (w .read))) (length room))) (lt-leb (length (w .read)) rows (omega (arith, w .counted)))
+      ∙ and-no (leb (length (payloadsOf s (w .read))) (length room))
+
+  -- 9
+  pub gathers-none : (r : FramesRead) → fits ≡ false → r ≡ NoneRead (noRoom p bytes count) (standsAt p) → Gathers s p room rows r room
+  gathers-none r t e =
+      record {
+        answers =
+            e
+            ∙ sym
+            (ap (givenAll s p (length room) rows) (w .is)
+            ∙ pick-no _ _ t
+            ∙ ap₂ (λ (b c : ℕ). NoneRead (noRoom p b c) (standsAt p)) (w .long) (w .counted));
+        room-is = sym (ap (roomAll s room rows) (w .is) ∙ pick-no _ _ t);
+      }
+
+  module _ (h : bytes ≤ length room) where
+    -- what taking asks
+    pub takes-asks : Fits s p room
+    takes-asks = record { read = w .read; end = end; is = w .is; fits = omega (arith, w .long) }
+
+    -- the frames
+    pub gathers-frames : (after : List ℕ) → count ≤ rows → after ≡ splice room 0 (allPayloads s (allFrames s p)) → Gathers s p room rows (Frames count bytes (standsAt end)) after
+    gathers-frames after k e =
+        record {
+          answers =
+              sym
+              (ap (givenAll s p (length room) rows) (w .is)
+              ∙ pick-yes _ _ both
+              ∙ ap₂ (λ (b c : ℕ). Frames c b (standsAt end)) (w .long) (w .counted));
+          room-is =
+              e
+              ∙ ap (λ (a : AllRead). splice room 0 (allPayloads s a)) (w .is)
+              ∙ sym (ap (roomAll s room rows) (w .is) ∙ pick-yes _ _ both);
+        }
+      where
+        both : fits ≡ true
+        both =
+            and-both (leb (length (payloadsOf s (w .read))) (length room)) (leb (length (w .read)) rows)
+            (le-leb (length (payloadsOf s (w .read))) (length room) (omega (arith, w .long))) (le-leb (length (w .read)) rows (omega (arith, w .counted)))
+
+-- ---- the records
+
+-- how many records an answer has
+abbrev pub recordsIn : FramesRead → ℕ
+recordsIn (Frames count bytes reader) = count
+recordsIn (NoneRead r reader) = 0
+
+-- the row that so many records are laid into
+abbrev filled : List ℕ → ℕ → List DssFrame → ℕ → List DssFrame
+filled s p row count = splice row 0 (recordsFrom (length row) s (startsAt p count))
+
+filled-none : (s : List ℕ) (p : ℕ) (row : List DssFrame) → filled s p row 0 ≡ row
+filled-none s p row = ap (λ (l : List DssFrame). splice row 0 l) (records-none (length row) s (startsAt p 0) refl) ∙ splice-nothing row
+
+filled-is : (s : List ℕ) (p size : ℕ) (row : List DssFrame) (a : AllRead) → allFrames s p ≡ a → filled s p row (recordsIn (givenAll s p size (length row) a)) ≡ rowAll s size row a
+filled-is s p size row (refusedAll r) e = filled-none s p row
+filled-is s p size row (frames fs q) e =
+    by (framesFit s fs size (length row))
+    (λ t. ap (λ (r : FramesRead). filled s p row (recordsIn r)) (pick-yes _ _ t)
+    ∙ ap (λ (l : List DssFrame). splice row 0 l)
+    (records-all fs (length row) s p 0 q e (leb-true _ _ (and-split (leb (length (payloadsOf s fs)) size) (leb (length fs) (length row)) t .1)))
+    ∙ sym (pick-yes _ _ t))
+    (λ t. ap (λ (r : FramesRead). filled s p row (recordsIn r)) (pick-no _ _ t) ∙ filled-none s p row ∙ sym (pick-no _ _ t))
+
+-- the parts together
+pub read-all-is : (s : List ℕ) (p : ℕ) (room : List ℕ) (row : List DssFrame) (r : FramesRead) (roomAfter : List ℕ) (rowAfter : List DssFrame) (count : ℕ)
+    → Gathers s p room (length row) r roomAfter → count ≡ recordsIn r → rowAfter ≡ splice row 0 (recordsFrom (length row) s (startsAt p count))
+    → ReadAllFrames s p room row r roomAfter rowAfter
+read-all-is s p room row r roomAfter rowAfter count w c e =
+    record {
+      answers = w .answers;
+      room-is = w .room-is;
+      row-is = e ∙ ap (filled s p row) (c ∙ ap recordsIn (w .answers)) ∙ filled-is s p (length room) row (allFrames s p) refl;
+    }

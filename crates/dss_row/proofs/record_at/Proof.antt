@@ -1,0 +1,54 @@
+-- `dss_row::record_at` meets its contract: none by its law, and what a measure says of the frame by `Measures`.
+use native.Mathlib.Omega.{arith}
+use mathlib.Core.Path.{sym, _∙_}
+use borrow.Author.Needs.{needs}
+use Rattle.dss_frame.specs.declared.Rules.the-variants.{Reader}
+use Rattle.dss_row.specs.Measures.{Measures, measures, measured-not}
+use Rattle.dss_row.specs.RowLaws.{record-none, record-read, record-measured}
+use Rattle.dss_row.proofs.record_at.Statement.{statement}
+use Rattle.dss_row.proofs.record_at.Tie as tie
+
+returns : tie.Need-returns
+returns c = sym (record-none _ _ (c .if1 .taken))
+
+measure-requires : tie.Need-measure-requires
+measure-requires c κs = search needs
+
+enum-told : tie.Need-enum-told
+enum-told c = search needs
+
+enum-known-measure : tie.Need-enum-known-measure
+enum-known-measure c = search needs
+
+-- what the measure is of
+measured : (c : tie.After-header)
+    → (let a = c .before .before .before .before .before .before .before .args in
+    Measures Reader (a .run .now) (a .place .at) (c .before .before .measure2 .given .0 .0))
+measured c = measures Reader _ _ _ (sym (c .before .before .before .before .measure .ensures) ∙ c .before .before .measure2 .given .1)
+
+add-t15 : tie.Need-add-t15
+add-t15 c = omega (arith, measured c)
+
+sub-t16 : tie.Need-sub-t16
+sub-t16 c = search needs
+
+returns-2 : tie.Need-returns-2
+returns-2 c =
+    let w = c .before .before in
+    sym (record-read _ _ _ (w .before .if1 .left) (measured-not Reader _ _ _ (sym (w .measure .ensures) ∙ c .enum-told .given .1)))
+
+returns-3 : tie.Need-returns-3
+returns-3 c = sym (record-measured _ _ _ (c .before .before .before .before .before .if1 .left) (measured c))
+
+pub record-at-spec : {M : Type 1} → statement M
+record-at-spec =
+    tie.close
+    (tie.spec
+    returns
+    measure-requires
+    enum-told
+    enum-known-measure
+    add-t15
+    sub-t16
+    returns-2
+    returns-3)

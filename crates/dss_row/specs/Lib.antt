@@ -1,0 +1,4 @@
+pub mod Rows
+pub mod Thin
+pub mod Measures
+pub mod RowLaws

@@ -1,0 +1,141 @@
+// Taking a frame: its payload into lent room, each segment's part copied once. Document 01, "Reading".
+ghost use Prim.Native.Nat.{_+_, _-_, _≤_};
+ghost use mathlib.Core.Path.{_≡_};
+ghost use lib.ListN.{length, take};
+ghost use Rattle.wire.specs.Bytes.{be16, part, splice};
+ghost use Rattle.dss_frame.specs.Reading.{startsExtended};
+ghost use Rattle.dss_take.specs.Take.{Takes};
+ghost use Rattle.dss_take.specs.Payloads.{payloadAt, Fits, Typed};
+use answer::Refusal;
+use answer::Refused;
+use dss_frame::Rules;
+use dss_head::Chunk;
+use dss_head::DSS_HEADER_LEN;
+use dss_head::DSS_MAX_SEGMENT_LEN;
+use dss_head::DssType;
+use dss_measure::Look;
+use dss_measure::Measured;
+
+// The bytes of a full segment: 32,767.
+const DSS_FULL_SEGMENT_LEN: usize = DSS_MAX_SEGMENT_LEN as usize;
+// The bytes of a continuation's length.
+const DSS_CONTINUATION_HEADER_LEN: usize = 2;
+// The payload bytes of a full first segment: 32,761.
+const DSS_FIRST_PAYLOAD_LEN: usize = DSS_FULL_SEGMENT_LEN - DSS_HEADER_LEN;
+// The payload bytes of a full continuation: 32,765.
+const DSS_CONTINUATION_PAYLOAD_LEN: usize = DSS_FULL_SEGMENT_LEN - DSS_CONTINUATION_HEADER_LEN;
+
+// A part of the run, laid into the room from a place on.
+pub(crate) fn copy_part(run: &[u8], from: usize, end: usize, room: &mut [u8], at: usize)
+    requires { ⌜ (from ≤ end) × (end ≤ length (now run)) × (at + (end - from) ≤ length (now room)) ⌝ }
+    ensures { λ _. ⌜ now (room .exit) ≡ splice (now (room .entry)) at (part (now (run .entry)) from end) ⌝ }
+{
+    bytes::copy(&run[from..end], &mut room[at..]);
+}
+
+// The payload of a frame of raw length 0xFFFF: its first segment's, and each continuation's up to the last.
+pub(crate) fn copy_chunks(rules: Rules, run: &[u8], at: usize, room: &mut [u8])
+    requires { ⌜ Fits rules (now run) at (now room) × (be16 (now run) at ≡ 0xFFFF) ⌝ }
+    ensures { λ _. ⌜ now (room .exit) ≡ splice (now (room .entry)) 0 (payloadAt rules (now (run .entry)) at) ⌝ }
+{
+    let mut from = at + DSS_FULL_SEGMENT_LEN;
+    let mut fill = DSS_FIRST_PAYLOAD_LEN;
+    copy_part(run, at + DSS_HEADER_LEN, from, room, 0);
+    loop {
+        let raw = wire::u16_at(run, from);
+        match dss_measure::chunk_under(rules, raw) {
+            Chunk::Dead => {
+                return;
+            }
+            Chunk::Last => {
+                let end = from + raw as usize;
+                copy_part(run, from + DSS_CONTINUATION_HEADER_LEN, end, room, fill);
+                return;
+            }
+            Chunk::Full => {
+                let next = from + DSS_FULL_SEGMENT_LEN;
+                copy_part(run, from + DSS_CONTINUATION_HEADER_LEN, next, room, fill);
+                fill += DSS_CONTINUATION_PAYLOAD_LEN;
+                from = next;
+            }
+        }
+    }
+}
+
+// Whether the payload so far, the room's first bytes, starts an extended object.
+pub(crate) fn starts_extended(room: &[u8], fill: usize) -> bool
+    requires { ⌜ fill ≤ length (now room) ⌝ }
+    ensures { λ r. ⌜ r ≡ startsExtended (take fill (now (room .entry))) ⌝ }
+{
+    if fill < 4 {
+        return false;
+    }
+    wire::u16_at(room, 0) == 0x8004
+}
+
+// The payload of any other frame, whose head has this type: its first segment's, and what each segment that it absorbs adds.
+pub(crate) fn copy_absorbed(rules: Rules, run: &[u8], at: usize, first: DssType, room: &mut [u8])
+    requires { ⌜ Fits rules (now run) at (now room) × Typed rules (now run) at first × (be16 (now run) at ≡ 0xFFFF → ⊥) ⌝ }
+    ensures { λ _. ⌜ now (room .exit) ≡ splice (now (room .entry)) 0 (payloadAt rules (now (run .entry)) at) ⌝ }
+{
+    let seg_len = wire::u16_at(run, at) as usize;
+    let mut end = at + seg_len;
+    let mut fill = seg_len - DSS_HEADER_LEN;
+    copy_part(run, at + DSS_HEADER_LEN, end, room, 0);
+    loop {
+        let extended = starts_extended(room, fill);
+        match dss_measure::look_behind(rules, run, first, extended, end) {
+            Look::Finished => {
+                return;
+            }
+            Look::Refuses(_) => {
+                return;
+            }
+            Look::Absorbs {
+                dropped,
+                end: next,
+                chained: _,
+            } => {
+                let from = end + DSS_HEADER_LEN + dropped;
+                copy_part(run, from, next, room, fill);
+                fill += next - from;
+                end = next;
+            }
+        }
+    }
+}
+
+// The payload of the frame at a place, whose head has this type, at the room's start.
+pub(crate) fn copy_frame(rules: Rules, run: &[u8], at: usize, first: DssType, room: &mut [u8])
+    requires { ⌜ Fits rules (now run) at (now room) × Typed rules (now run) at first ⌝ }
+    ensures { λ _. ⌜ now (room .exit) ≡ splice (now (room .entry)) 0 (payloadAt rules (now (run .entry)) at) ⌝ }
+{
+    if wire::u16_at(run, at) == 0xFFFF {
+        copy_chunks(rules, run, at, room);
+        return;
+    }
+    copy_absorbed(rules, run, at, first, room);
+}
+
+// The frame at a place of a run, under either's rules, its payload laid at the room's start: all refusals, 9 last.
+pub fn take(rules: Rules, run: &[u8], at: usize, room: &mut [u8]) -> Measured
+    ensures { λ r. ⌜ Takes rules (now (run .entry)) at (now (room .entry)) r (now (room .exit)) ⌝ }
+{
+    match dss_measure::measure(rules, run, at) {
+        Measured::Refused(refused) => Measured::Refused(refused),
+        Measured::Frame(frame) => {
+            let need = frame.payload_len;
+            if room.len() < need {
+                let why = Refusal::NoRoom {
+                    bytes: need,
+                    records: 0,
+                };
+                return Measured::Refused(Refused { why, place: at });
+            }
+            let header = frame.header;
+            let first = header.dss_type;
+            copy_frame(rules, run, at, first, room);
+            Measured::Frame(frame)
+        }
+    }
+}
