@@ -131,7 +131,7 @@ pub fn three(tally: &mut Tally, held: &mut Held) {
             for cut in two.len()..=run.len() {
                 held.hold(tally, &run[..cut]);
             }
-            for length in (turn % 3..=LONGEST as u16).step_by(3) {
+            for length in (turn as u16 % 3..=LONGEST as u16).step_by(3) {
                 let run = [&two[..], &frame(length, c + 0x10, 3, third)].concat();
                 held.hold(tally, &run);
             }
