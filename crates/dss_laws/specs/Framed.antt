@@ -132,7 +132,7 @@ framed-walk {n} {b} (several k r e lo hi w) u rules s rest p d =
     walk-several rules s p (here-first s b rest p d (omega arith) ∙ w .starts) (omega arith)
     ∙ ap (behind (first p 32767)) (later-walk k rules s (p + 32767) (r + 2) (fields-run s rest p w d) (omega arith) (chunk-last rules (r + 2) (omega arith) (omega arith)) (omega arith))
 
--- as the brief has it: behind any bytes and before any others
+-- behind any bytes and before any others
 pub framed-between : {n : ℕ} {b : List ℕ} (f : Framed n b) → (Even n → ⊥) → (rules : Rules) (pre rest : List ℕ) → frameWalk rules (pre ++ (b ++ rest)) (length pre) ≡ whole (segmentsOf f (length pre))
 framed-between {b = b} f u rules pre rest = framed-walk f u rules (pre ++ (b ++ rest)) rest (length pre) (drop-append-seam pre (b ++ rest))
 
