@@ -9,12 +9,12 @@ use Rattle.wire.specs.Bytes.{two, be16}
 use Rattle.ddm_object.specs.Objects.{Object, object, parsed}
 use Rattle.layouts.specs.DdmLayout.{Width, Ddm, inline, extended}
 use Rattle.ddm_laws.specs.Forms.{some-bytes}
-use Rattle.ddm_laws.specs.Taken.{Taken, all, wide}
-use Rattle.ddm_laws.specs.Taken
+use Rattle.ddm_length.specs.Taken.{Taken, all, wide}
+use Rattle.ddm_length.specs.Taken
 use Rattle.wire.specs.Laws.{be16-front}
-use Rattle.ddm_laws.specs.Reads.{Reads, content-plain}
+use Rattle.ddm_object.specs.Reads.{Reads, content-plain}
 use Rattle.wire.specs.Octets.{Octets, octets-take}
-use Rattle.ddm_laws.specs.Walks.{Found, found, front}
+use Rattle.ddm_object.specs.Walks.{Found, found, front}
 
 -- the raw lengths of the volume
 pub data Documented : ℕ → Type 0 where

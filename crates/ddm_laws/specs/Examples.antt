@@ -4,7 +4,7 @@ use mathlib.Core.Path.{_≡_, refl}
 use mathlib.Core.List.{List, [], _∷_}
 use Rattle.wire.specs.Bytes.{last}
 use Rattle.ddm_object.specs.Objects.{object, parsed}
-use Rattle.ddm_laws.specs.Reads.{made}
+use Rattle.ddm_object.specs.Reads.{made}
 
 inline-example : parsed (0 ∷ 7 ∷ 0x21 ∷ 0x10 ∷ 1 ∷ 2 ∷ 3 ∷ 9 ∷ []) 0 ≡ object (made 0x2110 (1 ∷ 2 ∷ 3 ∷ []) 7)
 unfolding parsed

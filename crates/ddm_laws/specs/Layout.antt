@@ -9,9 +9,10 @@ use Rattle.layouts.specs.DdmLayout.{Ddm, inline, extended}
 use Rattle.ddm_builder.specs.Built.{builtWith, built}
 use Rattle.ddm_object.specs.Objects.{object, parsed}
 use Rattle.wire.specs.Widths.{length-last, spelled-last}
-use Rattle.ddm_laws.specs.Forms.{some-bytes, Form, form, built-wide}
+use Rattle.ddm_builder.specs.Forms.{built-wide}
+use Rattle.ddm_laws.specs.Forms.{some-bytes, Form, form}
 use Rattle.ddm_laws.specs.Forms
-use Rattle.ddm_laws.specs.Reads.{made, Reads, inline-reads, wide-reads}
+use Rattle.ddm_object.specs.Reads.{made, Reads, inline-reads, wide-reads}
 
 -- what is built has the layout
 pub built-ddm : (cp : ℕ) (d : List ℕ) → length d < 2 ^ 63 → Ddm cp d (built cp d)

@@ -1,12 +1,6 @@
 pub mod Forms
-pub mod Taken
-pub mod Fronts
-pub mod Reads
 pub mod Layout
-pub mod Markers
 pub mod Sums
-pub mod Walks
-pub mod AllWalks
 pub mod Lists
 pub mod BuiltOctets
 pub mod Complete

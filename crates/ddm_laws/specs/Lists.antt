@@ -7,9 +7,9 @@ use lib.ListN.{length, length-append}
 use Rattle.ddm_length.specs.Lengths.{measured}
 use Rattle.ddm_builder.specs.Built.{built}
 use Rattle.ddm_object.specs.Objects.{Object, objects, andMore, parsed, allObjects, parameters}
-use Rattle.ddm_laws.specs.Reads.{made, Reads, past}
-use Rattle.ddm_laws.specs.Walks.{Walks, stop, reads-step, walks-parameters}
-use Rattle.ddm_laws.specs.AllWalks.{allFrom, all-from, all-short, all-step}
+use Rattle.ddm_object.specs.Reads.{made, Reads, past}
+use Rattle.ddm_object.specs.Walks.{Walks, stop, reads-step, walks-parameters}
+use Rattle.ddm_object.specs.AllWalks.{allFrom, all-from, all-short, all-step}
 use Rattle.ddm_laws.specs.Layout.{built-reads}
 
 pub data Pieces : List ℕ → List Object → Type 0 where

@@ -11,6 +11,7 @@ use lib.ListN.{length, getD, take, drop, take-append-drop}
 use lib.Seq.{take-suc}
 use Rattle.wire.specs.Bytes.{pick, spelled}
 use Rattle.answer.specs.declared.Refusal.the-variants.{LengthTooLarge}
+use Rattle.ddm_length.specs.Sums.{spelled-grows}
 use Rattle.ddm_length.specs.Lengths.{refuse, extendedTotal}
 use Rattle.ddm_length.specs.declared.Marshaled.{Marshaled}
 use Rattle.ddm_length.specs.declared.Marshaled.the-variants.{Takes}
@@ -24,12 +25,6 @@ summed n (b ∷ bs) = pick (ltb (n * 256 + b) (2 ^ 64)) (summed (n * 256 + b) bs
 
 abbrev pub within : ℕ → Option ℕ
 within n = pick (ltb n (2 ^ 64)) (some n) none
-
--- a number only grows with its bytes
-pub spelled-grows : (n : ℕ) (bs : List ℕ) → n ≤ spelled n bs
-unfolding spelled
-spelled-grows n [] = omega arith
-spelled-grows n (b ∷ bs) = omega (arith, spelled-grows (n * 256 + b) bs)
 
 pub summed-is : (n : ℕ) (bs : List ℕ) → n < 2 ^ 64 → summed n bs ≡ within (spelled n bs)
 unfolding summed spelled
@@ -54,20 +49,6 @@ plus-within header n =
 -- "8 when the number in all length bytes plus header length exceeds 2^64 - 1"
 pub sum-is : (header : ℕ) (bs : List ℕ) → plus header (summed 0 bs) ≡ within (header + spelled 0 bs)
 sum-is header bs = ap (plus header) (summed-is 0 bs (omega arith)) ∙ plus-within header (spelled 0 bs)
-
--- the test that a machine can make before it multiplies
-pub room : (n b : ℕ) → b < 256 → (n * 256 + b < 2 ^ 64) ↔ (n < 2 ^ 56)
-room n b h = omega arith
-
--- the loop's step, by place
-pub spelled-step : (bs : List ℕ) (i : ℕ) → i < length bs → spelled 0 (take (suc i) bs) ≡ spelled 0 (take i bs) * 256 + getD bs i 0
-unfolding spelled
-spelled-step bs i h = ap (spelled 0) (take-suc bs i 0 h) ∙ spelled-append 0 (take i bs) (getD bs i 0 ∷ [])
-
--- what the bytes so far spell is no more than all
-pub spelled-front : (bs : List ℕ) (i : ℕ) → spelled 0 (take i bs) ≤ spelled 0 bs
-spelled-front bs i =
-    omega (arith, spelled-grows (spelled 0 (take i bs)) (drop i bs), spelled-append 0 (take i bs) (drop i bs), ap (spelled 0) (take-append-drop i bs))
 
 abbrev pub byTotal : Option ℕ → (ℕ → Marshaled) → Marshaled → Marshaled
 byTotal none f x = x

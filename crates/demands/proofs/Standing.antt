@@ -19,7 +19,7 @@ use Rattle.dss_frame.specs.declared.Rules.{Rules}
 use Rattle.dss_frame.specs.declared.Rules.the-variants.{Salvage}
 use Rattle.dss_frame.specs.Reading.{finished, look, lookAt, follows, ownObject}
 use Rattle.dss_frame.specs.Written.{Sent, headOf, written}
-use Rattle.ddm_laws.specs.Forms.{built-inline}
+use Rattle.ddm_builder.specs.Forms.{built-inline}
 use Rattle.demands.specs.Demands.{Sendable, StartsObject, Stands}
 use Rattle.wire.specs.Laws.{pick-by, and-both, true-false}
 use Rattle.wire.specs.Places.{here-two, here-first}

@@ -1,1 +1,4 @@
 pub mod SalvageCall
+pub mod Steps
+pub mod Stepping
+pub mod Measuring

@@ -1,0 +1,70 @@
+-- `ddm_length::strip_extended_ddm_continuation_markers` meets its contract: the length is measured first, and nothing is laid
+-- down unless it fits. Data without markers is laid down as it is.
+use Prim.Native.Nat.{_^_}
+use native.Mathlib.Omega.{arith}
+use mathlib.Core.Path.{sym, _∙_, ap}
+use borrow.Author.Tests.{le-leb, lt-leb, lt-ltb}
+use Rattle.wire.specs.Bytes.{laid}
+use Rattle.wire.specs.Laws.{pick-no}
+use Rattle.wire.specs.Splice.{laid-kept}
+use Rattle.ddm_length.specs.Markers.{unmarked}
+use borrow.Author.Needs.{needs}
+use Rattle.ddm_length.proofs.strip_extended_ddm_continuation_markers.Statement.{statement}
+use Rattle.ddm_length.proofs.strip_extended_ddm_continuation_markers.Tie as tie
+
+unmarked-len-requires : tie.Need-unmarked-len-requires
+unmarked-len-requires c κs = search needs
+
+returns : tie.Need-returns
+returns c =
+    let s = c .before .before .before .before .args in
+    let n = c .before .unmarked-len in
+    record {
+      answers = rw (← n .ensures) (simp (lt-leb _ _ (c .if1 .taken), lt-ltb (n .result) (2 ^ 64) (omega arith)));
+      room-is = sym (laid-kept (s .work .now) 0 (unmarked (s .«data» .now)) (omega arith));
+    }
+
+has-markers-requires : tie.Need-has-markers-requires
+has-markers-requires c κs = search needs
+
+lay-kept-requires : tie.Need-lay-kept-requires
+lay-kept-requires c κs = (sym (c .before .before .has-markers .ensures) ∙ c .before .if2 .taken, omega arith)
+
+same-length : tie.Need-same-length
+same-length c = search needs
+
+returns-2 : tie.Need-returns-2
+returns-2 c =
+    record {
+      answers = rw (← c .before .before .before .before .before .before .before .unmarked-len .ensures) (simp (le-leb _ _ (c .before .before .before .before .before .before .if1 .left)));
+      room-is = c .before .before .lay-kept .ensures;
+    }
+
+lay-requires : tie.Need-lay-requires
+lay-requires c κs = search needs
+
+same-length-2 : tie.Need-same-length-2
+same-length-2 c = search needs
+
+returns-3 : tie.Need-returns-3
+unfolding unmarked
+returns-3 c =
+    let s = c .before .before .before .before .before .before .before .before .before .before .args in
+    record {
+      answers = rw (← c .before .before .before .before .before .before .before .unmarked-len .ensures) (simp (le-leb _ _ (c .before .before .before .before .before .before .if1 .left)));
+      room-is = c .before .before .lay .ensures ∙ ap (laid (s .work .now) 0) (sym (pick-no _ _ (sym (c .before .before .before .before .before .has-markers .ensures) ∙ c .before .before .before .before .if2 .left)));
+    }
+
+pub strip-extended-ddm-continuation-markers-spec : {M : Type 1} → statement M
+strip-extended-ddm-continuation-markers-spec =
+    tie.close
+    (tie.spec
+    unmarked-len-requires
+    returns
+    has-markers-requires
+    lay-kept-requires
+    same-length
+    returns-2
+    lay-requires
+    same-length-2
+    returns-3)

@@ -1,0 +1,20 @@
+-- `ddm_object::measure_as` meets its contract: one or the other, by the flag.
+use borrow.Author.Needs.{needs}
+use Rattle.ddm_object.proofs.measure_as.Statement.{statement}
+use Rattle.ddm_object.proofs.measure_as.Tie as tie
+
+measure-objects-requires : tie.Need-measure-objects-requires
+measure-objects-requires c κs = search needs
+
+returns : tie.Need-returns
+returns c = rw (c .before .if1 .taken) (c .measure-objects .ensures)
+
+measure-parameters-requires : tie.Need-measure-parameters-requires
+measure-parameters-requires c κs = search needs
+
+returns-2 : tie.Need-returns-2
+returns-2 c = rw (c .before .if1 .left) (c .measure-parameters .ensures)
+
+pub measure-as-spec : {M : Type 1} → statement M
+measure-as-spec =
+    tie.close (tie.spec measure-objects-requires returns measure-parameters-requires returns-2)

@@ -1,0 +1,95 @@
+// The entries of a salvage reading, laid into a lent row: document 01, "Salvage reading", "Entries are listed in order, one record each".
+ghost use mathlib.Core.Path.{_≡_};
+ghost use Prim.Native.Nat.{_≤_};
+ghost use lib.ListN.{length};
+ghost use Rattle.wire.specs.Bytes.{splice};
+ghost use Rattle.dss_salvage_row.specs.Entries.{recordAt, startsAt, recordsFrom};
+use dss_frame::DssFrame;
+use dss_salvage::Entry;
+use dss_salvage::SalvageEntry;
+use dss_salvage::Step;
+
+// Where an entry starts in the run, where its payload lies in the room, and how many entries are still to come.
+pub struct RowPlace {
+    pub at: usize,
+    pub payload_at: usize,
+    pub left: usize,
+}
+
+// What stands at a place: an entry's record and the place behind it, or none.
+pub enum RecordFound {
+    One(SalvageEntry, RowPlace),
+    End,
+}
+
+// The record at a place, found by a step of the walk. A payload is no longer than the bytes that its frame takes.
+pub(crate) fn record_at(run: &[u8], place: RowPlace) -> RecordFound
+    requires { ⌜ place .«payload_at» ≤ place .at ⌝ }
+    ensures { λ r. ⌜ r ≡ recordAt (now (run .entry)) place ⌝ }
+{
+    let at = place.at;
+    let payload_at = place.payload_at;
+    let left = place.left;
+    if left == 0 {
+        return RecordFound::End;
+    }
+    match dss_salvage::entry_at(run, at) {
+        Step::End => RecordFound::End,
+        Step::Last(refused) => {
+            let entry = Entry::Refused(refused);
+            let next = RowPlace {
+                at,
+                payload_at,
+                left: 0,
+            };
+            RecordFound::One(SalvageEntry { entry }, next)
+        }
+        Step::Over(refused, end) => {
+            let entry = Entry::Refused(refused);
+            let next = RowPlace {
+                at: end,
+                payload_at,
+                left: left - 1,
+            };
+            RecordFound::One(SalvageEntry { entry }, next)
+        }
+        Step::Frame(measure) => {
+            let header = measure.header;
+            let payload_len = measure.payload_len;
+            let entry = Entry::Frame(DssFrame {
+                header,
+                payload_at,
+                payload_len,
+                segments: measure.segments,
+            });
+            let next = RowPlace {
+                at: measure.end,
+                payload_at: payload_at + payload_len,
+                left: left - 1,
+            };
+            RecordFound::One(SalvageEntry { entry }, next)
+        }
+    }
+}
+
+// The records of at most `count` entries from a place on, as many as the row has, with their payloads end to end.
+pub fn fill_entries(run: &[u8], from: usize, count: usize, row: &mut [SalvageEntry])
+    ensures { λ _. ⌜ now (row .exit) ≡ splice (now (row .entry)) 0 (recordsFrom (length (now (row .entry))) (now (run .entry)) (startsAt «from» count)) ⌝ }
+{
+    let mut i: usize = 0;
+    let mut place = RowPlace {
+        at: from,
+        payload_at: 0,
+        left: count,
+    };
+    while i < row.len() {
+        match record_at(run, place) {
+            RecordFound::One(record, next) => {
+                row[i] = record;
+                place = next;
+                i += 1;
+            }
+            RecordFound::End => break,
+        }
+    }
+}
