@@ -2,7 +2,16 @@
 fn main() {
     let folder = concat!(env!("CARGO_MANIFEST_DIR"), "/../target/staticlib");
     println!("cargo:rustc-link-search=native={folder}");
-    for name in ["gateway", "gateway_writer", "gateway_reader"] {
+    for name in [
+        "gateway",
+        "gateway_writer",
+        "gateway_reader",
+        "gateway_frames",
+        "gateway_salvage",
+        "gateway_object",
+        "gateway_object_rows",
+        "gateway_builder",
+    ] {
         println!("cargo:rustc-link-lib=static={name}");
         println!("cargo:rerun-if-changed={folder}/lib{name}.a");
     }

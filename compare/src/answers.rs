@@ -41,7 +41,9 @@ pub struct Answer {
     words: Vec<u64>,
     /// The bytes laid down in the room.
     room: Bytes,
-    /// Whether all else is as it was: in and beside the words, the room, the run.
+    /// The words laid down in a row of records.
+    row: Vec<u64>,
+    /// Whether all else is as it was: in and beside the words, the room, the row, the run.
     rest_kept: bool,
 }
 
@@ -73,6 +75,7 @@ pub fn expected(answer: Words, words: usize) -> Answer {
             answer.to_vec()
         },
         room: Bytes::default(),
+        row: Vec::new(),
         rest_kept: true,
     }
 }
@@ -91,6 +94,7 @@ pub fn answered(lent: &mut Lent<u64>, words: usize, call: impl FnOnce(&mut [u64]
         number,
         words: laid,
         room: Bytes::default(),
+        row: Vec::new(),
         rest_kept,
     }
 }
@@ -105,6 +109,24 @@ impl Answer {
     /// How many bytes are laid down.
     pub fn bytes_laid(&self) -> usize {
         self.room.0.len()
+    }
+
+    /// Besides, these words laid down in a row.
+    pub fn listing(mut self, words: &[u64]) -> Answer {
+        self.row = words.to_vec();
+        self
+    }
+
+    /// How many words are laid down in a row.
+    pub fn words_listed(&self) -> usize {
+        self.row.len()
+    }
+
+    /// Besides, so many words at the start of a lent row, and all others kept.
+    pub fn with_row(self, row: &Lent<u64>, laid: usize) -> Answer {
+        let words = row.part(0, laid);
+        let kept = row.holds_only(0, words);
+        self.listing(words).and(kept)
     }
 
     /// Besides, so many bytes of a lent room from a place on, and all others kept.

@@ -1,15 +1,26 @@
-//! Holds the port to the running Rust: the same input to both, and the answers, the words and every byte of each lent buffer
-//! compared. `compare [CASES] [SEED]`: how many random inputs each part tries besides those that it tries one and all, and
-//! which ones.
+//! Holds the port to the running Rust, and what the Rust doesn't have to document 01: the same input to both, and the answers,
+//! the words and every byte of each lent buffer compared. `compare [CASES] [SEED]`: how many random inputs each part tries
+//! besides those that it tries one and all, and which ones.
 mod answers;
+mod ddm;
 mod head;
 mod lengths;
 mod lent;
 mod port;
 mod reader;
+mod rows;
+mod salvage;
+mod stops;
+mod traffic;
 mod writer;
 
+// The names that the Rust's ddm.rs takes from its crate's root: its text is also a module here (ddm/rust.rs).
+use db2_proto::{codepage, ProtoError, Result};
 use std::fmt::Debug;
+use std::path::Path;
+
+/// The captures, unpacked.
+const CAPTURES: &str = concat!(env!("CARGO_MANIFEST_DIR"), "/../target/compare/captures");
 
 /// How many were compared, and how many differed.
 pub struct Tally {
@@ -47,6 +58,11 @@ pub fn hex(bytes: &[u8]) -> String {
         return "no bytes".to_string();
     }
     bytes.iter().map(|b| format!("{b:02X}")).collect()
+}
+
+/// The first bytes of a run, for the line of a difference.
+pub fn shown(run: &[u8]) -> &[u8] {
+    &run[..run.len().min(96)]
 }
 
 /// Random numbers that a seed decides (xorshift, multiplied).
@@ -93,9 +109,13 @@ fn main() {
         compared: 0,
         different: 0,
     };
+    stops::silence();
     lengths::compare(&mut tally);
     head::compare(&mut tally, &mut chance, cases);
     writer::compare(&mut tally, &mut chance, cases);
     reader::compare(&mut tally, &mut chance, cases);
+    salvage::compare(&mut tally, &mut chance, cases);
+    ddm::compare(&mut tally, &mut chance, cases);
+    traffic::compare(&mut tally, Path::new(CAPTURES));
     tally.end();
 }

@@ -1,5 +1,6 @@
 //! The port's functions, as the static library exports them: a slice goes as its pointer and its length. The safe functions
 //! below add nothing.
+pub mod rows;
 
 extern "C" {
     fn lattrugone_decode_dss_length(raw: u16) -> u16;
@@ -92,7 +93,7 @@ pub fn next_correlation_id(id: u16) -> u16 {
     unsafe { lattrugone_next_correlation_id(id) }
 }
 
-/// What a call of the writer lends.
+/// What a call of the writer or the builder lends.
 pub struct Loan<'a> {
     pub payload: &'a [u8],
     pub room: &'a mut [u8],
@@ -198,4 +199,14 @@ pub fn next_frame(run: &[u8], at: usize, room: &mut [u8], words: &mut [u64]) -> 
             words.len(),
         )
     }
+}
+
+// ---- module 4, what builds from data; the rest of it stands in ddm/port.rs
+
+lending! {
+    lattrugone_builder_add_code_point: builder_add_code_point(fill: usize, cp: u16);
+    lattrugone_builder_add_raw: builder_add_raw(fill: usize);
+    lattrugone_builder_build: builder_build(code_point: u16, fill: usize);
+    lattrugone_build_param: build_param(code_point: u16);
+    lattrugone_build_ddm_object: build_ddm_object(code_point: u16);
 }

@@ -1,10 +1,12 @@
-//! Module 3 of document 01: the reader. The port's functions against the Rust's DssReader: head, payload, position, refusals.
+//! Module 3 of document 01: the reader. The port's functions against the Rust's DssReader: head, payload, position, refusals, and
+//! the row of records.
 //! Where the Rust stops, and for the count of segments, which it doesn't have, against document 01's walk.
+mod all;
 mod case;
-mod long;
-mod runs;
+pub mod long;
+pub mod runs;
 mod rust;
-mod short;
+pub mod short;
 mod walk;
 
 use crate::{Chance, Tally};
@@ -17,7 +19,6 @@ const LONG: usize = 200;
 const SHORT: usize = 64;
 
 pub fn compare(tally: &mut Tally, chance: &mut Chance, cases: u64) {
-    rust::silence();
     let mut held = Held::new();
     paper(tally, &mut held);
     short::one(tally, &mut held);
@@ -34,7 +35,7 @@ pub fn compare(tally: &mut Tally, chance: &mut Chance, cases: u64) {
 }
 
 /// Document 01's cases of frames, P1 to P12.
-const PAPER: [&[u8]; 12] = [
+pub const PAPER: [&[u8]; 12] = [
     b"",
     b"\x00\x06\xD0\x02\x00\x07",
     b"\x00\x06\xD1\x02\x00\x07",

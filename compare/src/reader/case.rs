@@ -1,18 +1,24 @@
 //! One run, read by both: each call at each position that the Rust comes to, then all frames at once.
-use super::rust::{next, position, read_all, shown, All, Read};
-use crate::answers::{answered, done, expected, refused, Answer, Bytes};
+use super::all::{listed, to_end, ByFrame};
+use super::rust::{next, position, Read};
+use crate::answers::{answered, done, expected, refused, Answer};
 use crate::lent::Lent;
-use crate::{port, Tally};
+use crate::rows::{Call, Listed, Rows};
+use crate::{port, shown, Tally};
 use db2_proto::dss::DssReader;
 
 /// The longest run and the longest room.
 pub const MOST: usize = 700_000;
+
+/// The most frames of a run.
+const FRAMES: usize = 64;
 
 /// What is lent to the port.
 pub struct Held {
     run: Lent<u8>,
     room: Lent<u8>,
     words: Lent<u64>,
+    rows: Rows,
     turn: usize,
 }
 
@@ -22,6 +28,7 @@ impl Held {
             run: Lent::new(MOST),
             room: Lent::new(MOST),
             words: Lent::new(64),
+            rows: Rows::new(MOST, FRAMES),
             turn: 0,
         }
     }
@@ -47,20 +54,17 @@ impl Held {
         case.words = words;
         case.first(tally);
         let mut reader = DssReader::new(run.to_vec());
-        let (mut bytes, mut frames) = (0, 0);
+        let mut segments = Vec::new();
         loop {
             let at = position(&reader, run);
             case.look(tally, &reader, at);
             let read = next(tally, &mut reader, run, 0);
             case.next(tally, at, &read);
-            bytes += read.payload_len();
             match read {
-                Read::Frame { .. } => frames += 1,
+                Read::Frame { segments: n, .. } => segments.push(n),
                 Read::Refused(last) => {
-                    if words >= 8 {
-                        let rust = read_all(run, last);
-                        case.all(tally, frames, bytes, rust);
-                    }
+                    let by_frame = ByFrame { segments, last };
+                    case.all(tally, 0, &listed(run, 0, &by_frame));
                     return;
                 }
             }
@@ -71,18 +75,18 @@ impl Held {
     pub fn hold_at(&mut self, tally: &mut Tally, run: &[u8], at: usize, words: usize) {
         let mut case = self.lend(run);
         case.words = words;
-        let read = match run.get(at..) {
-            Some(rest) => {
-                let mut reader = DssReader::new(rest.to_vec());
-                case.look(tally, &reader, at);
-                next(tally, &mut reader, rest, at)
-            }
-            None => {
-                case.look_beyond(tally, at);
-                Read::Refused(beyond(at, run.len()))
-            }
+        let Some(rest) = run.get(at..) else {
+            case.look_beyond(tally, at);
+            let answer = beyond(at, run.len());
+            case.next(tally, at, &Read::Refused(answer));
+            return case.all(tally, at, &Listed::Refused(answer));
         };
+        let mut reader = DssReader::new(rest.to_vec());
+        case.look(tally, &reader, at);
+        let read = next(tally, &mut reader, rest, at);
         case.next(tally, at, &read);
+        let by_frame = to_end(tally, &mut reader, rest, at, read);
+        case.all(tally, at, &listed(run, at, &by_frame));
     }
 
     /// A run that arrives in two parts: what the Rust's `extend` adds is a longer run at the same position. What the first part
@@ -206,35 +210,15 @@ impl Case<'_> {
         tally.same("next_frame", &self.input(at, room), port, rust);
     }
 
-    /// All frames: the port's calls one after the other, each payload behind the one before it in one room that is just enough.
-    /// The port's own `read_all_frames` fills a row of structs and isn't exported: its promise names the same reading.
-    fn all(&mut self, tally: &mut Tally, frames: usize, bytes: usize, rust: All) {
-        let Held {
-            run, words, room, ..
-        } = &mut *self.held;
-        room.lend(bytes);
-        let (mut at, mut mark, mut heads) = (0, 0, Vec::new());
-        let last = loop {
-            let lent = words.lend(8);
-            port::next_frame(run.again(), at, &mut room.again()[mark..], lent);
-            let answer: [u64; 8] = (&*lent).try_into().expect("eight words");
-            // One frame more than the Rust has is a difference, and so is a payload beyond the room.
-            if answer[0] != 0 || heads.len() > frames {
-                break answer;
-            }
-            heads.push([answer[2], answer[3], answer[4]]);
-            at = answer[1] as usize;
-            mark = (mark + answer[5] as usize).min(bytes);
+    /// All frames from a position on.
+    fn all(&mut self, tally: &mut Tally, at: usize, listed: &Listed) {
+        let Held { run, rows, .. } = &mut *self.held;
+        let call = Call {
+            name: "read_all_frames",
+            at,
+            words: self.words,
+            make: port::rows::read_all_frames,
         };
-        if last[0] != 1 {
-            (heads, mark) = (Vec::new(), 0);
-        }
-        let payloads = Bytes(room.part(0, mark).to_vec());
-        let port = All {
-            heads,
-            payloads,
-            last,
-        };
-        tally.same("read_all_frames", &self.input(0, bytes), port, rust);
+        rows.hold(tally, run, self.run, call, listed);
     }
 }

@@ -1,10 +1,10 @@
 //! The Rust's reader, call by call. It gives no positions: what remains shows them, also after it stopped.
 use super::walk::{walk, Walked};
-use crate::answers::{done, expected, of_error, refused, Answer, Bytes, Words};
-use crate::Tally;
+use crate::answers::{expected, of_error, refused, Answer, Words};
+use crate::rows::frame_words;
+use crate::stops::unless_stopped;
+use crate::{shown, Tally};
 use db2_proto::dss::{DssFrame, DssReader};
-use std::panic::{catch_unwind, resume_unwind, set_hook, take_hook, AssertUnwindSafe};
-use std::sync::atomic::{AtomicBool, Ordering};
 
 /// What a frame's reading comes to.
 pub enum Read {
@@ -28,13 +28,6 @@ pub fn head_of(frame: &DssFrame) -> [u64; 3] {
         format as u64,
         head.correlation_id as u64,
     ]
-}
-
-/// A frame in words: the position behind it, the head, the payload's length, segments.
-pub fn frame_words(end: usize, head: [u64; 3], payload: usize, segments: u64) -> Words {
-    let mut words = done(&[head[0], head[1], head[2], payload as u64, segments]);
-    words[1] = end as u64;
-    words
 }
 
 impl Read {
@@ -66,40 +59,7 @@ impl Read {
     }
 }
 
-// ---- where the Rust stops
-
-static QUIET: AtomicBool = AtomicBool::new(false);
-
-/// From here on nothing is printed where the Rust stops within `unless_stopped`.
-pub fn silence() {
-    let loud = take_hook();
-    set_hook(Box::new(move |why| {
-        if !QUIET.load(Ordering::Relaxed) {
-            loud(why)
-        }
-    }));
-}
-
-/// What a call of the Rust gives; nothing where it stops at a part that starts behind its end.
-pub fn unless_stopped<T>(call: impl FnOnce() -> T) -> Option<T> {
-    QUIET.store(true, Ordering::Relaxed);
-    let given = catch_unwind(AssertUnwindSafe(call));
-    QUIET.store(false, Ordering::Relaxed);
-    match given {
-        Ok(given) => Some(given),
-        Err(why) => match why.downcast_ref::<String>() {
-            Some(text) if text.starts_with("slice index starts at") => None,
-            _ => resume_unwind(why),
-        },
-    }
-}
-
 // ---- one frame
-
-/// The first bytes of a run, for the line of a difference.
-pub fn shown(run: &[u8]) -> &[u8] {
-    &run[..run.len().min(96)]
-}
 
 /// Where a reader of these bytes stands.
 pub fn position(reader: &DssReader, bytes: &[u8]) -> usize {
@@ -144,32 +104,4 @@ pub fn next(tally: &mut Tally, reader: &mut DssReader, bytes: &[u8], from: usize
     };
     tally.same("document 01 and next_frame", shown(bytes), paper, rust);
     read
-}
-
-// ---- all frames
-
-/// All frames of a run: their heads and their payloads end to end, and the refusal that ends the reading. A refusal but 1 is
-/// all that there is.
-#[derive(PartialEq, Debug)]
-pub struct All {
-    pub heads: Vec<[u64; 3]>,
-    pub payloads: Bytes,
-    pub last: Words,
-}
-
-/// The Rust's `read_all_frames`; the length that stops it is in the refusal that its own calls came to.
-pub fn read_all(bytes: &[u8], last: Words) -> All {
-    let mut reader = DssReader::new(bytes.to_vec());
-    let given = unless_stopped(|| reader.read_all_frames());
-    let place = position(&reader, bytes) as u64;
-    let (frames, last) = match given {
-        Some(Ok(frames)) => (frames, refused(1, place, &[])),
-        Some(Err(error)) => (Vec::new(), of_error(&error, place)),
-        None => (Vec::new(), refused(7, place, &last[2..3])),
-    };
-    All {
-        heads: frames.iter().map(head_of).collect(),
-        payloads: Bytes(frames.into_iter().flat_map(|frame| frame.payload).collect()),
-        last,
-    }
 }

@@ -38,7 +38,7 @@ pub fn framed(format: u8, correlation: u16, payload: &[u8]) -> Vec<u8> {
 }
 
 /// Every length from 0 to 12, type from 0 to 5, set of flags and payload, in twelve bytes.
-fn every_frame(correlation: u16) -> impl Iterator<Item = Vec<u8>> {
+pub fn every_frame(correlation: u16) -> impl Iterator<Item = Vec<u8>> {
     (0..=LONGEST as u16).flat_map(move |length| {
         (0..=5).flat_map(move |kind| {
             FLAGS.into_iter().flat_map(move |flags| {

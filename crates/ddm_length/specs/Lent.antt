@@ -1,34 +1,26 @@
--- What a room holds when a part of it was lent on, and when bytes are laid over bytes that were laid.
+-- What a room holds when a part of it was lent on, whether or not what is laid down fits, and when bytes are laid over bytes that
+-- were laid. `wire`'s `Lent` has the laws of what fits, said with `splice`.
 use Prim.Native.Nat.{ℕ, _+_, _-_, _≤_, _<_}
 use native.Mathlib.Omega.{arith}
 use mathlib.Core.Path.{_≡_, sym, _∙_, ap, ap₂}
 use mathlib.Core.List.{List, [], _++_, append-nil}
 use borrow.Author.Tests.{leb-true, leb-false}
 use lib.Dec.{leb}
-use lib.ListN.{length, take, drop, length-append, length-drop, take-append-drop, drop-of-length-le}
-use lib.Seq.{take-all, take-length, drop-length, drop-drop}
+use lib.ListN.{length, take, drop, length-append, drop-of-length-le}
+use lib.Seq.{drop-drop}
 use Rattle.wire.specs.Bytes.{splice, laid}
 use Rattle.wire.specs.Laws.{by}
-use Rattle.wire.specs.Splice.{splice-lent, splice-front, splice-rest, splice-length, splice-splice, laid-fits, laid-kept}
-
--- the room, where its part from a on was lent and came back as `part`
-abbrev pub backAt : List ℕ → ℕ → List ℕ → List ℕ
-backAt r a part = take a r ++ (part ++ drop (length r - a) (drop a r))
+use Rattle.wire.specs.Lent.{tail, back, tail-length, lent, copied}
+use Rattle.wire.specs.Splice.{splice-none, splice-front, splice-rest, splice-length, splice-splice, laid-fits, laid-kept}
 
 -- what was laid down at the lent part's start was laid down at a
-pub lent-laid : (r : List ℕ) (a : ℕ) (part b : List ℕ) → a ≤ length r → part ≡ laid (take (length r - a) (drop a r)) 0 b → backAt r a part ≡ laid r a b
+pub lent-laid : (r : List ℕ) (a : ℕ) (part b : List ℕ) → a ≤ length r → part ≡ laid (tail r a) 0 b → back r a part ≡ laid r a b
 lent-laid r a part b h e =
-    let l : length (drop a r) ≡ length r - a = length-drop a r in
-    let t : take (length r - a) (drop a r) ≡ drop a r = take-all (length r - a) (drop a r) (omega arith) in
-    let z : drop (length r - a) (drop a r) ≡ [] = ap (λ (n : ℕ). drop n (drop a r)) (sym l) ∙ drop-length (drop a r) in
-    let q : part ≡ laid (drop a r) 0 b = e ∙ ap (λ (s : List ℕ). laid s 0 b) t in
-    ap₂ (λ (x y : List ℕ). take a r ++ (x ++ y)) q z
-    ∙ ap (λ (x : List ℕ). take a r ++ x) (append-nil (laid (drop a r) 0 b))
-    ∙ by (leb (a + length b) (length r))
+    by (leb (a + length b) (length r))
     (λ c. let f : a + length b ≤ length r = leb-true (a + length b) (length r) c in
-    ap (λ (x : List ℕ). take a r ++ x) (laid-fits (drop a r) 0 b (omega arith)) ∙ splice-lent r a b ∙ sym (laid-fits r a b f))
+    lent r a part b (e ∙ laid-fits (tail r a) 0 b (omega (arith, tail-length r a))) ∙ sym (laid-fits r a b f))
     (λ c. let f : length r < a + length b = leb-false (a + length b) (length r) c in
-    ap (λ (x : List ℕ). take a r ++ x) (laid-kept (drop a r) 0 b (omega arith)) ∙ take-append-drop a r ∙ sym (laid-kept r a b f))
+    lent r a part [] (e ∙ laid-kept (tail r a) 0 b (omega (arith, tail-length r a)) ∙ sym (splice-none (tail r a) 0)) ∙ splice-none r a ∙ sym (laid-kept r a b f))
 
 -- bytes laid over no more bytes, from the same place on
 pub splice-over : (r : List ℕ) (a : ℕ) (x y : List ℕ) → a ≤ length r → length x ≤ length y → splice (splice r a x) a y ≡ splice r a y
@@ -42,10 +34,7 @@ splice-over r a x y h l =
 
 -- what a copy leaves
 pub copied-laid : (d r : List ℕ) → length d ≤ length r → take (length d) d ++ drop (length d) r ≡ laid r 0 d
-unfolding splice
-copied-laid d r h =
-    let z : length d ≡ 0 + length d = omega arith in
-    ap₂ (λ (x : List ℕ) (n : ℕ). x ++ drop n r) (take-length d) z ∙ sym (laid-fits r 0 d (omega arith))
+copied-laid d r h = copied d r ∙ sym (laid-fits r 0 d (omega arith))
 
 -- bytes that fit, laid down behind bytes that were laid down
 pub laid-next : (r : List ℕ) (a : ℕ) (x y : List ℕ) (n : ℕ) → a + length x ≡ n → n + length y ≤ length r → laid (laid r a x) n y ≡ laid r a (x ++ y)
@@ -76,12 +65,8 @@ laid-length r a b =
 
 -- the next bytes, laid down by one who was lent what follows those laid down so far
 pub lent-next : (r s x : List ℕ) (n : ℕ) (part y : List ℕ) → s ≡ laid r 0 x → length x ≡ n → n + length y ≤ length r
-    → part ≡ laid (take (length s - n) (drop n s)) 0 y → backAt s n part ≡ laid r 0 (x ++ y)
+    → part ≡ laid (tail s n) 0 y → back s n part ≡ laid r 0 (x ++ y)
 lent-next r s x n part y e l h p =
     lent-laid s n part y (omega (arith, ap length e ∙ laid-length r 0 x)) p
     ∙ ap (λ (z : List ℕ). laid z n y) e
     ∙ laid-next r 0 x y n (omega arith) h
-
--- all that stands from a place on, as a part
-pub rest-is : (s : List ℕ) (a : ℕ) → take (length s - a) (drop a s) ≡ drop a s
-rest-is s a = take-all (length s - a) (drop a s) (omega (arith, length-drop a s))

@@ -451,7 +451,7 @@ pub(crate) fn take_listed(
 }
 
 // All but the row: measures, tests work area and row, lays into the work area, and answers.
-pub(crate) fn take_as(data: &[u8], whole: bool, work: &mut [u8], rows: usize) -> ObjectsFound
+pub fn take_as(data: &[u8], whole: bool, work: &mut [u8], rows: usize) -> ObjectsFound
     ensures { λ r. ⌜ TakesWork (now («data» .entry)) (walkedAs whole (now («data» .entry))) (now (work .entry)) rows r (now (work .exit)) ⌝ }
 {
     match measure_as(data, whole) {
@@ -465,7 +465,7 @@ pub(crate) fn take_as(data: &[u8], whole: bool, work: &mut [u8], rows: usize) ->
 }
 
 // How many records an answer has.
-pub(crate) fn count_of(found: ObjectsFound) -> usize
+pub fn count_of(found: ObjectsFound) -> usize
     ensures { λ r. ⌜ r ≡ countOf found ⌝ }
 {
     match found {

@@ -61,19 +61,19 @@ unfolding middle broken written chunks chunksFuel
 broken-spoilt =
     record { length-kept = refl; bytes = octets-tested (0 ∷ 7 ∷ 0x55 ∷ 0x13 ∷ 9 ∷ 9 ∷ 0xBB ∷ []) refl; lengths-kept = broken-lengths; reason = record { why = InvalidMagic 0x55; place = 0 }; head-refused = refl }
 
-reply-item : Item written
+pub reply-item : Item written
 unfolding reply
 reply-item = good reply reply-sendable (λ u. omega (arith, u .size)) (inl refl)
 
-broken-item : Item written
+pub broken-item : Item written
 unfolding middle
 broken-item = spoilt middle middle-sendable (λ u. omega (arith, u .size)) (inl refl) broken broken-spoilt
 
-object-item : Item written
+pub object-item : Item written
 unfolding object
 object-item = good object object-sendable (λ u. omega (arith, u .size)) (inr (inr object-starts))
 
-pub three : List (Item written)
+unfoldable pub three : List (Item written)
 three = reply-item ∷ broken-item ∷ object-item ∷ []
 
 -- the bytes on the wire

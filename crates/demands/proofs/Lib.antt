@@ -18,3 +18,7 @@ pub mod LongerAll
 pub mod LongerExamples
 pub mod ReaderKeeps
 pub mod SalvageKeeps
+pub mod SalvageClauses
+pub mod SeveralRun
+pub mod SalvageImpostors
+pub mod ReaderClauses

@@ -140,7 +140,7 @@ pub(crate) fn no_room(at: usize, bytes: usize, records: usize) -> FramesRead
 }
 
 // All frames from a place on for a row of so many records, their payloads in the room: all refusals, 9 last.
-pub(crate) fn read_all(run: &[u8], at: usize, room: &mut [u8], rows: usize) -> FramesRead
+pub fn read_all(run: &[u8], at: usize, room: &mut [u8], rows: usize) -> FramesRead
     ensures { λ r. ⌜ Gathers (now (run .entry)) at (now (room .entry)) rows r (now (room .exit)) ⌝ }
 {
     match measure_all(run, at) {
@@ -166,7 +166,7 @@ pub(crate) fn read_all(run: &[u8], at: usize, room: &mut [u8], rows: usize) -> F
 }
 
 // How many records an answer has.
-pub(crate) fn records_of(read: FramesRead) -> usize
+pub fn records_of(read: FramesRead) -> usize
     ensures { λ r. ⌜ r ≡ recordsIn read ⌝ }
 {
     match read {

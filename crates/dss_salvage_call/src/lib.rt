@@ -56,7 +56,7 @@ pub(crate) fn no_room(bytes: usize, count: usize) -> Salvaged
 }
 
 // What a salvage reading comes to with so many rows, its payloads in the room: measured first, and laid down if all fits.
-pub(crate) fn gather(run: &[u8], room: &mut [u8], rows: usize) -> Salvaged
+pub fn gather(run: &[u8], room: &mut [u8], rows: usize) -> Salvaged
     ensures { λ r. ⌜ Gathers (now (run .entry)) (now (room .entry)) rows r (now (room .exit)) ⌝ }
 {
     let all = dss_salvage::measure_salvage(run);
@@ -77,7 +77,7 @@ pub(crate) fn gather(run: &[u8], room: &mut [u8], rows: usize) -> Salvaged
 }
 
 // How many entries an answer has.
-pub(crate) fn entries_in(salvaged: Salvaged) -> usize
+pub fn entries_in(salvaged: Salvaged) -> usize
     ensures { λ r. ⌜ r ≡ entriesIn salvaged ⌝ }
 {
     match salvaged {

@@ -1,12 +1,9 @@
 -- Module 3 for a caller in C or Rust: what the reader's functions answer in words, and what the lent room then holds.
-use Prim.Native.Nat.{ℕ, _+_}
+use Prim.Native.Nat.{ℕ}
 use mathlib.Core.Path.{_≡_}
-use mathlib.Core.List.{List, [], _∷_}
+use mathlib.Core.List.{List}
 use lib.ListN.{length}
-use Rattle.dss_head.specs.Heads.{typeByte, flagsByte}
-use Rattle.dss_head.specs.declared.DssHeader.{DssHeader}
 use Rattle.dss_frame.specs.Reading.{readAt}
-use Rattle.dss_frame.specs.declared.DssFrame.{DssFrame}
 use Rattle.dss_frame.specs.declared.Rules.the-variants.{Reader}
 use Rattle.dss_take.specs.Take.{roomRead}
 use Rattle.dss_reader.specs.Reader.{given}
@@ -15,29 +12,17 @@ use Rattle.dss_reader.specs.declared.FrameEnd.the-variants.{End, Refused as NoE
 use Rattle.dss_reader.specs.declared.FrameRead.{FrameRead}
 use Rattle.dss_reader.specs.declared.FrameRead.the-variants.{Frame as Gives, Refused as NotRead}
 use Rattle.gateway_words.specs.Words.{refusalWords, doneWords, Answered}
+use Rattle.gateway_row.specs.RowWords.{frameAt}
 
 -- a frame's end: the byte after its last
 abbrev pub endWords : FrameEnd → List ℕ
 endWords (End e) = doneWords e 0 0 0
 endWords (NoEnd r) = refusalWords r
 
--- a head's format byte: the type's byte and the flags'
-abbrev pub formatByte : DssHeader → ℕ
-formatByte h = typeByte (h .«dss_type») + flagsByte (h .flags)
-
 -- a frame: 0, the position behind it, length, the format byte, correlation, the payload's length, segments. A refusal's place
 -- is the position that it leaves
 abbrev pub frameWords : FrameRead → List ℕ
-frameWords (Gives f reader) =
-    0
-    ∷ reader .position
-    ∷ f .header .length
-    ∷ formatByte (f .header)
-    ∷ f .header .«correlation_id»
-    ∷ f .«payload_len»
-    ∷ f .segments
-    ∷ 0
-    ∷ []
+frameWords (Gives f reader) = frameAt (reader .position) f
 frameWords (NotRead r reader) = refusalWords r
 
 -- what reading the frame at p answers, and what the lent words and the lent room then hold

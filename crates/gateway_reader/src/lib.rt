@@ -1,5 +1,5 @@
 // The reader for C and Rust: document 01, module 3. Slices, numbers and words go as in the crate gateway. A reader goes in as
-// its position. `read_all_frames` fills a row of structs, which is nothing for C: a caller there reads frame by frame.
+// its position. All frames at once are the crate gateway_frames'.
 ghost use mathlib.Core.Path.{_≡_};
 ghost use Prim.Native.Nat.{_-_};
 ghost use lib.ListN.{length};
@@ -12,7 +12,6 @@ use dss_reader::FrameEnd;
 use dss_reader::FrameRead;
 use gateway_words::put_done;
 use gateway_words::put_refusal;
-use gateway_words::put_words;
 
 // A frame's end, or why there is none.
 pub(crate) fn put_end(words: &mut [u64], found: FrameEnd) -> u8
@@ -30,23 +29,7 @@ pub(crate) fn put_frame(words: &mut [u64], read: FrameRead) -> u8
 {
     match read {
         FrameRead::Frame(frame, reader) => {
-            let head = frame.header;
-            let dss_type = head.dss_type;
-            let flags = head.flags;
-            let type_byte = dss_type.to_byte();
-            let flags_byte = flags.to_byte();
-            let format = type_byte as u64 + flags_byte as u64;
-            put_words(
-                words,
-                0,
-                reader.position as u64,
-                head.length as u64,
-                format,
-                head.correlation_id as u64,
-                frame.payload_len as u64,
-                frame.segments as u64,
-                0,
-            );
+            gateway_row::put_frame(words, reader.position, frame);
             0
         }
         FrameRead::Refused(refused, _) => put_refusal(words, refused),

@@ -1,7 +1,7 @@
 -- `ddm_object::find_param` meets its contract: it goes by the place that was found.
 use mathlib.Core.Path.{sym, _∙_, subst}
 use lib.ListN.{length}
-use Rattle.ddm_length.specs.Lent.{rest-is}
+use Rattle.wire.specs.Lent.{tail-drop}
 use Rattle.ddm_object.specs.declared.PlaceFound.the-variants.{At}
 use Rattle.ddm_object.specs.Records.{GivesIn}
 use Rattle.ddm_object.specs.Finding.{PlaceIs}
@@ -40,7 +40,7 @@ returns c =
     let d = s .«data» .now in
     let p = c .before .before .before .before .before .before .at .given .0 .0 in
     let f = place-is (c .before .before .before .before .before) in
-    let g = subst (λ b. GivesIn b p 0 (s .work .now) (c .before .before .parse-in .result) (c .before .before .parse-in .last .1 .1 .1 .0)) (rest-is d p) (c .before .before .parse-in .ensures) in
+    let g = subst (λ b. GivesIn b p 0 (s .work .now) (c .before .before .parse-in .result) (c .before .before .parse-in .last .1 .1 .1 .0)) (tail-drop d p) (c .before .before .parse-in .ensures) in
     record { answers = g .answers ∙ sym (f .1 (length (s .work .now))); work-is = g .work-is ∙ sym (f .2 (s .work .now)) }
 
 enum-told : tie.Need-enum-told

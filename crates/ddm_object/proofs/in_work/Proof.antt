@@ -4,7 +4,7 @@ use mathlib.Core.Path.{sym, _∙_, ap}
 use lib.ListN.{drop-of-length-le}
 use borrow.Author.Tests.{eq-eqb, ne-eqb}
 use Rattle.ddm_length.specs.Markers.{hasMarkers}
-use Rattle.ddm_length.specs.Lent.{rest-is}
+use Rattle.wire.specs.Lent.{tail-drop}
 use borrow.Author.Needs.{needs}
 use Rattle.ddm_object.proofs.in_work.Statement.{statement}
 use Rattle.ddm_object.proofs.in_work.Tie as tie
@@ -32,7 +32,7 @@ has-markers-requires c κs = search needs
 returns-2 : tie.Need-returns-2
 returns-2 c =
     let s = c .before .before .before .before .before .before .args .bytes .now in
-    rw (← c .before .before .before .before .u16-at .ensures, eq-eqb _ _ (c .before .before .before .if1 .taken)) (c .has-markers .ensures ∙ ap hasMarkers (rest-is s 4))
+    rw (← c .before .before .before .before .u16-at .ensures, eq-eqb _ _ (c .before .before .before .if1 .taken)) (c .has-markers .ensures ∙ ap hasMarkers (tail-drop s 4))
 
 returns-3 : tie.Need-returns-3
 returns-3 c = rw (← c .before .u16-at .ensures, ne-eqb _ _ (c .if1 .left))

@@ -3,7 +3,7 @@
 use native.Mathlib.Omega.{arith}
 use mathlib.Core.Path.{sym, _∙_, ap}
 use Rattle.ddm_length.specs.Lengths.{measured}
-use Rattle.ddm_length.specs.Lent.{rest-is}
+use Rattle.wire.specs.Lent.{tail-drop}
 use Rattle.ddm_object.specs.Listing.{measured-listed, measured-broken, stopped}
 use borrow.Author.Needs.{needs}
 use Rattle.ddm_object.proofs.measure_objects.Statement.{statement}
@@ -40,7 +40,7 @@ returns-2 c =
     let w = c .before .before .before .before .before .before .walk in
     let run = c .before .before .before .before .before .before .before .before .args .run .now in
     sym (measured-broken run _ (w .ensures) _ (omega (arith, w .ensures .within))
-    (sym (ap (λ b. measured b (w .result .end)) (rest-is run (w .result .end))) ∙ sym (c .before .before .before .measure-at .ensures) ∙ c .before .r .given .1))
+    (sym (ap (λ b. measured b (w .result .end)) (tail-drop run (w .result .end))) ∙ sym (c .before .before .before .measure-at .ensures) ∙ c .before .r .given .1))
 
 enum-told : tie.Need-enum-told
 enum-told c = search needs
@@ -49,7 +49,7 @@ returns-3 : tie.Need-returns-3
 returns-3 c =
     let w = c .before .before .before .before .before .walk in
     let run = c .before .before .before .before .before .before .before .args .run .now in
-    absurd (stopped run _ (w .ensures) _ _ (sym (ap (λ b. measured b (w .result .end)) (rest-is run (w .result .end))) ∙ sym (c .before .before .measure-at .ensures) ∙ c .enum-told .given .1))
+    absurd (stopped run _ (w .ensures) _ _ (sym (ap (λ b. measured b (w .result .end)) (tail-drop run (w .result .end))) ∙ sym (c .before .before .measure-at .ensures) ∙ c .enum-told .given .1))
 
 pub measure-objects-spec : {M : Type 1} → statement M
 measure-objects-spec =

@@ -1,6 +1,6 @@
 -- `ddm_object::object_at` meets its contract: the part of the run from the place on is parsed as a whole input.
 use mathlib.Core.Path.{subst}
-use Rattle.ddm_length.specs.Lent.{rest-is}
+use Rattle.wire.specs.Lent.{tail-drop}
 use Rattle.ddm_object.specs.Records.{GivesIn, at-place, beyond-place}
 use borrow.Author.Needs.{needs}
 use Rattle.ddm_object.proofs.object_at.Statement.{statement}
@@ -28,7 +28,7 @@ returns-2 : tie.Need-returns-2
 returns-2 c =
     let s = c .before .before .before .before .before .before .before .before .args in
     at-place (s .run .now) (s .at) (s .work .now) _ _ (c .before .before .before .before .before .if1 .left)
-    (subst (λ b. GivesIn b (s .at) (s .at) (s .work .now) (c .before .before .parse-in .result) (c .before .before .parse-in .last .1 .1 .1 .0)) (rest-is (s .run .now) (s .at)) (c .before .before .parse-in .ensures))
+    (subst (λ b. GivesIn b (s .at) (s .at) (s .work .now) (c .before .before .parse-in .result) (c .before .before .parse-in .last .1 .1 .1 .0)) (tail-drop (s .run .now) (s .at)) (c .before .before .parse-in .ensures))
 
 pub object-at-spec : {M : Type 1} → statement M
 object-at-spec =

@@ -5,7 +5,7 @@ use mathlib.Core.Path.{sym, _∙_, ap}
 use lib.ListN.{length}
 use Rattle.wire.specs.Bytes.{laid}
 use Rattle.ddm_length.specs.Markers.{unmarked}
-use Rattle.ddm_length.specs.Lent.{rest-is}
+use Rattle.wire.specs.Lent.{tail-drop}
 use Rattle.ddm_object.specs.Records.{in-long, record-of, refused-of, rec-in, need-is, gives-plain, gives-work, gives-short, gives-refused}
 use borrow.Author.Needs.{needs}
 use Rattle.ddm_object.proofs.parse_in.Statement.{statement}
@@ -56,7 +56,7 @@ returns-2 c =
     let i = c .before .before .before .before .before .before .if1 .taken in
     gives-work (s .bytes .now) (s .place) (s .position) (s .work .now) _ f i _
     (omega (arith, c .before .before .before .before .before .if2 .left, need-is (s .bytes .now) (s .place) (s .position) (s .work .now) _ f i))
-    (c .before .before .strip-extended-ddm-continuation-markers .ensures .room-is ∙ ap (λ x. laid (s .work .now) 0 (unmarked x)) (rest-is (s .bytes .now) 4))
+    (c .before .before .strip-extended-ddm-continuation-markers .ensures .room-is ∙ ap (λ x. laid (s .work .now) 0 (unmarked x)) (tail-drop (s .bytes .now) 4))
 
 returns-3 : tie.Need-returns-3
 returns-3 c =

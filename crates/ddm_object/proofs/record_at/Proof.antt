@@ -1,6 +1,6 @@
 -- `ddm_object::record_at` meets its contract: what stands from a place on, as a part, is what is left without the bytes before.
 use mathlib.Core.Path.{_∙_, ap}
-use Rattle.ddm_length.specs.Lent.{rest-is}
+use Rattle.wire.specs.Lent.{tail-drop}
 use Rattle.ddm_object.specs.Records.{recordFound}
 use borrow.Author.Needs.{needs}
 use Rattle.ddm_object.proofs.record_at.Statement.{statement}
@@ -21,7 +21,7 @@ record-in-requires c κs = search needs
 returns : tie.Need-returns
 returns c =
     let s = c .before .before .before .args in
-    c .record-in .ensures ∙ ap (λ b. recordFound b (s .at)) (rest-is (s .run .now) (s .at))
+    c .record-in .ensures ∙ ap (λ b. recordFound b (s .at)) (tail-drop (s .run .now) (s .at))
 
 pub record-at-spec : {M : Type 1} → statement M
 record-at-spec =

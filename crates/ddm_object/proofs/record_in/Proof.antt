@@ -1,7 +1,7 @@
 -- `ddm_object::record_in` meets its contract: the laws of the record, by what the length says.
 use native.Mathlib.Omega.{arith}
 use mathlib.Core.Path.{sym, _∙_}
-use Rattle.ddm_length.specs.Lent.{rest-is}
+use Rattle.wire.specs.Lent.{tail-drop}
 use Rattle.ddm_length.specs.Taken.{measured-taken}
 use Rattle.ddm_length.specs.Fronts.{in-order}
 use Rattle.ddm_object.specs.Records.{in-long, record-work, record-plain, record-refused}
@@ -40,7 +40,7 @@ returns c =
     let s = c .before .before .before .before .before .before .before .before .before .before .args in
     let b = s .bytes .now in
     let e = sym (c .before .before .before .before .before .before .before .before .measure-at .ensures) ∙ c .before .before .before .before .before .before .total .given .1 in
-    rw (c .before .before .before .before .u16-at .ensures, c .unmarked-len .ensures, rest-is b 4)
+    rw (c .before .before .before .before .u16-at .ensures, c .unmarked-len .ensures, tail-drop b 4)
     (sym (record-work b (s .place) _ _ e (sym (c .before .before .before .in-work .ensures) ∙ c .before .before .if1 .taken)))
 
 add-t15 : tie.Need-add-t15

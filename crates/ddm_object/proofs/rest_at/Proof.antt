@@ -4,7 +4,7 @@ use mathlib.Core.Path.{sym, _∙_, ap}
 use lib.ListN.{length, drop-of-length-le}
 use borrow.Author.Tests.{le-leb, lt-leb}
 use Rattle.wire.specs.Laws.{pick-yes, pick-no}
-use Rattle.ddm_length.specs.Lent.{rest-is}
+use Rattle.wire.specs.Lent.{tail-drop}
 use Rattle.ddm_object.specs.Parts.{startAt}
 use borrow.Author.Needs.{needs}
 use Rattle.ddm_object.proofs.rest_at.Statement.{statement}
@@ -24,7 +24,7 @@ returns c =
     let s = c .before .before .args in
     let d = s .«data» .now in
     record {
-      bytes-are = rest-is d (length d) ∙ drop-of-length-le d {i = length d} (omega arith) ∙ sym (drop-of-length-le d {i = s .at} (omega arith));
+      bytes-are = tail-drop d (length d) ∙ drop-of-length-le d {i = length d} (omega arith) ∙ sym (drop-of-length-le d {i = s .at} (omega arith));
       starts = ap (startAt (s .«data»)) (sym (pick-no _ _ (lt-leb (s .at) (length d) (c .before .if1 .taken))));
     }
 
@@ -42,7 +42,7 @@ returns-2 c =
     let s = c .before .before .args in
     let d = s .«data» .now in
     record {
-      bytes-are = rest-is d (s .at);
+      bytes-are = tail-drop d (s .at);
       starts = ap (startAt (s .«data»)) (sym (pick-yes _ _ (le-leb (s .at) (length d) (c .before .if1 .left))));
     }
 

@@ -5,7 +5,7 @@ use mathlib.Core.Path.{_≡_, refl, sym, _∙_, ap, ap₂}
 use lib.ListN.{length}
 use Rattle.wire.specs.Bytes.{laid}
 use Rattle.ddm_length.specs.Markers.{unmarked}
-use Rattle.ddm_length.specs.Lent.{rest-is}
+use Rattle.wire.specs.Lent.{tail-drop}
 use Rattle.ddm_object.specs.Records.{record-of, refused-of, record-next}
 use Rattle.ddm_object.specs.Finding.{Seeking, seeking-start, seeking-step, seeking-found, seeking-end}
 use borrow.Author.Needs.{needs}
@@ -60,7 +60,7 @@ returns c =
     let l = c .before .before .before .before .before .before .before .before .before .before .loop in
     let f = record-of _ _ _ (sym (c .before .before .before .before .before .before .before .before .before .record-at .ensures) ∙ c .before .before .before .before .before .before .before .o .given .1) in
     c .before .before .strip-extended-ddm-continuation-markers .ensures .room-is
-    ∙ ap (λ x. laid (l .work) 0 (unmarked x)) (rest-is d (l .at + 4))
+    ∙ ap (λ x. laid (l .work) 0 (unmarked x)) (tail-drop d (l .at + 4))
     ∙ ap₂ (λ x y. laid x 0 y) (l .inv .1) (sym (seeking-found _ _ (l .inv .0) _ f (c .before .before .before .before .before .if1 .taken)))
 
 add-at : tie.Need-add-at Inv-loop μ-loop

@@ -6,29 +6,8 @@ use Rattle.gateway_reader.proofs.put_frame.Tie as tie
 enum-known-read : tie.Need-enum-known-read
 enum-known-read c = search needs
 
-to-byte-requires : tie.Need-to-byte-requires
-to-byte-requires c κs = search needs
-
-to-byte-requires-2 : tie.Need-to-byte-requires-2
-to-byte-requires-2 c κs = search needs
-
-cast-format : tie.Need-cast-format
-cast-format c = search needs
-
-cast-format-2 : tie.Need-cast-format-2
-cast-format-2 c = search needs
-
-add-format : tie.Need-add-format
-add-format c = search needs
-
-cast-put-words : tie.Need-cast-put-words
-cast-put-words c = search needs
-
-cast-put-words-2 : tie.Need-cast-put-words-2
-cast-put-words-2 c = search needs
-
-put-words-requires : tie.Need-put-words-requires
-put-words-requires c κs = search needs
+put-frame-requires : tie.Need-put-frame-requires
+put-frame-requires c κs = search needs
 
 enum-known-read-2 : tie.Need-enum-known-read-2
 enum-known-read-2 c = search needs
@@ -41,12 +20,8 @@ same-length c = search needs
 
 returns : tie.Need-returns
 returns c =
-    let bytes = c .before .before .before .before .before .before in
-    let known = bytes .before .before .before .before .before .read .given .1 in
-    record {
-      number-is = rw known;
-      words-are = rw (known, ← bytes .before .to-byte .ensures, ← bytes .to-byte2 .ensures) (c .before .before .put-words .ensures);
-    }
+    let known = c .before .before .before .before .before .read .given .1 in
+    record { number-is = rw known; words-are = rw known (c .before .before .put-frame .ensures) }
 
 same-length-2 : tie.Need-same-length-2
 same-length-2 c = search needs
@@ -59,14 +34,7 @@ put-frame-spec =
     tie.close
     (tie.spec
     enum-known-read
-    to-byte-requires
-    to-byte-requires-2
-    cast-format
-    cast-format-2
-    add-format
-    cast-put-words
-    cast-put-words-2
-    put-words-requires
+    put-frame-requires
     enum-known-read-2
     put-refusal-requires
     same-length

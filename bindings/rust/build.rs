@@ -1,0 +1,39 @@
+// Links the archives that `rt staticlib` writes, one for each crate that exports: from the folder that LATTRUGONE_LIB names, or
+// from target/staticlib of the repository that this crate stands in.
+use std::{env, path::PathBuf};
+
+const ARCHIVES: [&str; 8] = [
+    "gateway",
+    "gateway_writer",
+    "gateway_reader",
+    "gateway_frames",
+    "gateway_salvage",
+    "gateway_object",
+    "gateway_object_rows",
+    "gateway_builder",
+];
+
+fn main() {
+    println!("cargo:rerun-if-env-changed=LATTRUGONE_LIB");
+    let folder = env::var_os("LATTRUGONE_LIB").map_or_else(
+        || {
+            PathBuf::from(concat!(
+                env!("CARGO_MANIFEST_DIR"),
+                "/../../target/staticlib"
+            ))
+        },
+        PathBuf::from,
+    );
+    println!("cargo:rustc-link-search=native={}", folder.display());
+    for name in ARCHIVES {
+        let archive = folder.join(format!("lib{name}.a"));
+        if !archive.exists() {
+            panic!(
+                "{} isn't there: `rt staticlib {name}` writes it",
+                archive.display()
+            );
+        }
+        println!("cargo:rerun-if-changed={}", archive.display());
+        println!("cargo:rustc-link-lib=static={name}");
+    }
+}

@@ -1,0 +1,17 @@
+//! DSS: heads, the writer, the reader, the salvage reading. By db2-proto's names.
+mod head;
+mod reader;
+mod salvage;
+mod writer;
+
+pub use head::{DssFlags, DssHeader, DssType};
+pub use reader::{DssFrame, DssReader};
+pub use salvage::{salvage, Entry, Salvage};
+pub use writer::{build_dss_object, build_dss_request, DssWriter};
+
+/// The third byte of each head.
+pub const DSS_MAGIC: u8 = 0xD0;
+/// How many bytes a head is.
+pub const DSS_HEADER_LEN: usize = 6;
+/// How many bytes a segment is at most.
+pub const DSS_MAX_SEGMENT_LEN: usize = 32767;

@@ -1,0 +1,82 @@
+//! The salvage reading: added.
+use super::DssFrame;
+use crate::error::Refusal;
+use crate::loan::Loan;
+use crate::port::{self, Words};
+use crate::{ProtoError, Result};
+
+/// All that can be read of a run.
+#[derive(Debug, Clone)]
+pub struct Salvage {
+    /// Frames and refusals in the order in which they stand.
+    pub entries: Vec<Entry>,
+    /// Where it ended: from there on nothing was read.
+    pub tail: usize,
+}
+
+/// What stands at a place of a run.
+#[derive(Debug, Clone)]
+pub enum Entry {
+    /// A frame that was read.
+    Frame {
+        /// The frame.
+        frame: DssFrame,
+        /// Of how many segments it is.
+        segments: usize,
+    },
+    /// A whole frame whose head is refused.
+    Refused {
+        /// Its first byte.
+        place: usize,
+        /// Why: its magic, its type, or its length.
+        error: ProtoError,
+    },
+}
+
+/// Reads all that can be read of a run: a frame whose head is refused becomes an entry and is stepped over to its end; where
+/// its length is below 6 the reading ends there.
+///
+/// ```
+/// use lattrugone::dss::{build_dss_object, salvage, Entry};
+///
+/// let mut run = build_dss_object(1, false, b"station 0412");
+/// let spoilt = run.len();
+/// run.extend(build_dss_object(2, false, b"station 0413"));
+/// run.extend(build_dss_object(3, false, b"station 0414"));
+/// run[spoilt + 2] = 0xD1;
+///
+/// let found = salvage(&run);
+/// let line = |entry: &Entry| match entry {
+///     Entry::Frame { frame, .. } => String::from_utf8_lossy(&frame.payload).into_owned(),
+///     Entry::Refused { place, error } => format!("{error} at {place}"),
+/// };
+/// let lines: Vec<_> = found.entries.iter().map(line).collect();
+/// assert_eq!(lines, ["station 0412", "invalid DSS magic byte: 0xD1 at 18", "station 0414"]);
+/// assert_eq!(found.tail, run.len());
+/// ```
+pub fn salvage(run: &[u8]) -> Salvage {
+    let read = Loan::of(|loan| {
+        let (room, row, words) = (&mut loan.room, &mut loan.row, &mut loan.words);
+        port::salvage(run, room, row, words)
+    });
+    let loan = read.expect("the room that it takes is lent");
+    let entry = |record| Entry::of(record, &loan.room).expect("a frame's record has a type");
+    Salvage {
+        entries: loan.records().map(entry).collect(),
+        tail: loan.words[4] as usize,
+    }
+}
+
+impl Entry {
+    fn of(record: &Words, room: &[u8]) -> Result<Self> {
+        if record[0] != 0 {
+            let refusal = Refusal(*record);
+            let (place, error) = (refusal.place(), refusal.error());
+            return Ok(Entry::Refused { place, error });
+        }
+        Ok(Entry::Frame {
+            frame: DssFrame::of_record(record, room)?,
+            segments: record[6] as usize,
+        })
+    }
+}

@@ -1,0 +1,101 @@
+use crate::port::Words;
+use std::fmt;
+
+/// Why something wasn't read: db2-proto's cases that its modules dss and ddm give, and two for what stops it there.
+#[derive(Debug, Clone, PartialEq)]
+pub enum ProtoError {
+    /// A head's third byte isn't D0.
+    InvalidMagic(u8),
+    /// Fewer bytes than a head, an object or its header takes.
+    BufferTooShort {
+        /// So many are needed.
+        expected: usize,
+        /// So many are there.
+        actual: usize,
+    },
+    /// The low four bits of a format byte aren't a type.
+    InvalidDssType(u8),
+    /// A head says a length below 6. db2-proto stops.
+    LengthTooShort(u16),
+    /// An extended DDM length, with its header of so many bytes, is above 2^64 - 1. db2-proto loses bits or stops.
+    LengthTooLarge(usize),
+    /// An inline DDM length below 4, or an extended DDM header below 4: db2-proto's text.
+    Other(String),
+}
+
+impl fmt::Display for ProtoError {
+    fn fmt(&self, f: &mut fmt::Formatter<'_>) -> fmt::Result {
+        match self {
+            ProtoError::InvalidMagic(byte) => write!(f, "invalid DSS magic byte: 0x{byte:02X}"),
+            ProtoError::BufferTooShort { expected, actual } => {
+                write!(
+                    f,
+                    "buffer too short: expected {expected} bytes, got {actual}"
+                )
+            }
+            ProtoError::InvalidDssType(low) => write!(f, "invalid DSS type: 0x{low:02X}"),
+            ProtoError::LengthTooShort(length) => {
+                write!(f, "DSS length {length} is less than header size 6")
+            }
+            ProtoError::LengthTooLarge(header) => {
+                write!(
+                    f,
+                    "extended DDM length behind a header of {header} bytes is too large"
+                )
+            }
+            ProtoError::Other(text) => write!(f, "{text}"),
+        }
+    }
+}
+
+impl std::error::Error for ProtoError {}
+
+/// What db2-proto's functions give.
+pub type Result<T> = std::result::Result<T, ProtoError>;
+
+/// A refusal's words: its number, its place, its values.
+#[derive(Debug, Clone, Copy)]
+pub(crate) struct Refusal(pub Words);
+
+impl Refusal {
+    pub fn is_not_whole(&self) -> bool {
+        self.0[0] == 1
+    }
+
+    pub fn is_no_room(&self) -> bool {
+        self.0[0] == 9
+    }
+
+    pub fn place(&self) -> usize {
+        self.0[1] as usize
+    }
+
+    /// The error that it is, with db2-proto's text where that has one.
+    pub fn error(&self) -> ProtoError {
+        let [number, place, first, second, third, ..] = self.0;
+        match number {
+            2 => ProtoError::InvalidMagic(first as u8),
+            3 => ProtoError::InvalidDssType(first as u8),
+            4 => ProtoError::BufferTooShort {
+                expected: first as usize,
+                actual: second as usize,
+            },
+            5 => ProtoError::Other(format!(
+                "DDM length {first} is less than header size {second} for code point 0x{third:04X}"
+            )),
+            6 => ProtoError::Other(format!(
+                "extended DDM header length {first} is less than minimum 4"
+            )),
+            7 => ProtoError::LengthTooShort(first as u16),
+            8 => ProtoError::LengthTooLarge(first as usize),
+            // No function of this crate is refused with another number: it lends the room and keeps its own positions.
+            _ => ProtoError::Other(format!("refused with number {number} at {place}")),
+        }
+    }
+}
+
+impl From<Refusal> for ProtoError {
+    fn from(refusal: Refusal) -> Self {
+        refusal.error()
+    }
+}

@@ -1,0 +1,147 @@
+//! The salvage reading. Demand 3: of any run of written frames that stand by themselves, some of them spoilt, every other frame is
+//! handed out as it was written, with one refusal at the first byte of each that is spoilt, and nothing else.
+mod common;
+use common::{hex, pattern, Numbers};
+use lattrugone::ddm::build_ddm_object;
+use lattrugone::dss::{salvage, DssReader, DssType, DssWriter, Entry};
+use lattrugone::ProtoError::{InvalidDssType, InvalidMagic, LengthTooShort};
+
+/// An entry in short: a frame's format, correlation and payload, or a refusal's place.
+#[derive(Debug, PartialEq)]
+enum Found {
+    Frame(u8, u16, Vec<u8>),
+    Refused(usize),
+}
+
+fn found(run: &[u8]) -> (Vec<Found>, usize) {
+    let all = salvage(run);
+    let short = |entry| match entry {
+        Entry::Frame { frame, .. } => {
+            let head = frame.header;
+            let format = head.dss_type.to_byte() | head.flags.to_byte();
+            Found::Frame(format, head.correlation_id, frame.payload)
+        }
+        Entry::Refused { place, .. } => Found::Refused(place),
+    };
+    (all.entries.into_iter().map(short).collect(), all.tail)
+}
+
+/// A payload with which a frame stands by itself though same correlation is set: more than one segment, or an object.
+fn standing(numbers: &mut Numbers) -> Vec<u8> {
+    if numbers.below(8) == 0 {
+        let len = 32762 + numbers.below(40000);
+        return numbers.bytes(if len == 65526 { 65527 } else { len });
+    }
+    let data = numbers.below(60) + 1;
+    let code_point = 0x0101 + numbers.below(0xFEFE) as u16;
+    build_ddm_object(code_point, &numbers.bytes(data))
+}
+
+/// Spoils the frame at the front of `bytes` so that its head is refused; no length field is touched.
+fn spoil(numbers: &mut Numbers, bytes: &mut [u8]) {
+    bytes[3] = numbers.below(256) as u8;
+    if numbers.yes() {
+        bytes[2] = bytes[2].wrapping_add(1 + numbers.below(255) as u8);
+    } else {
+        bytes[3] =
+            (bytes[3] & 0xF0) | [0, 5, 6, 7, 8, 9, 10, 11, 12, 13, 14, 15][numbers.below(12)];
+    }
+    let payload = bytes.len().min(32767);
+    for b in &mut bytes[4..payload] {
+        *b = numbers.below(256) as u8;
+    }
+}
+
+fn run_of_frames(numbers: &mut Numbers) {
+    const TYPES: [DssType; 4] = [
+        DssType::Request,
+        DssType::Reply,
+        DssType::Object,
+        DssType::Communication,
+    ];
+    let (mut run, mut expected) = (Vec::new(), Vec::new());
+    for _ in 0..numbers.below(12) {
+        let (dss_type, chained, same) = (TYPES[numbers.below(4)], numbers.yes(), numbers.yes());
+        let payload = if same {
+            standing(numbers)
+        } else {
+            let len = numbers.below(40);
+            numbers.bytes(len)
+        };
+        let mut writer = DssWriter::new(numbers.below(65536) as u16);
+        writer.write_dss_full(dss_type, chained, same, &payload);
+        let mut frame = writer.finish();
+        if numbers.below(3) == 0 {
+            spoil(numbers, &mut frame);
+            expected.push(Found::Refused(run.len()));
+        } else {
+            let format = dss_type.to_byte() | (chained as u8) << 6 | (same as u8) << 4;
+            expected.push(Found::Frame(format, writer.correlation_id(), payload));
+        }
+        run.extend(frame);
+    }
+    assert_eq!(found(&run), (expected, run.len()));
+}
+
+#[test]
+fn demand_3() {
+    let mut numbers = Numbers(3);
+    for _ in 0..200 {
+        run_of_frames(&mut numbers);
+    }
+}
+
+#[test]
+fn a_sound_run_is_read_as_the_reader_reads_it() {
+    let mut writer = DssWriter::new(1);
+    for len in [3, 0, 32762, 70000, 9] {
+        writer.write_request(&pattern(len), true);
+    }
+    let run = writer.finish();
+    let frames = DssReader::new(run.clone()).read_all_frames().unwrap();
+    let salvaged = found(&run);
+    let payloads: Vec<_> = frames
+        .into_iter()
+        .map(|frame| Found::Frame(0x41, 1, frame.payload))
+        .collect();
+    assert_eq!(salvaged, (payloads, run.len()));
+}
+
+#[test]
+fn why_an_entry_is_refused() {
+    let run = hex("0006D1020007 0007D0050007FF 0006D0020008 0005D0020009 0006D0020001");
+    let all = salvage(&run);
+    let errors: Vec<_> = all
+        .entries
+        .iter()
+        .filter_map(|entry| match entry {
+            Entry::Refused { place, error } => Some((*place, error.clone())),
+            Entry::Frame { .. } => None,
+        })
+        .collect();
+    let expected = [
+        (0, InvalidMagic(0xD1)),
+        (6, InvalidDssType(5)),
+        (19, LengthTooShort(5)),
+    ];
+    assert_eq!(errors, expected);
+    // a length below 6 ends it
+    assert_eq!((all.entries.len(), all.tail), (4, 19));
+}
+
+#[test]
+fn no_entry_for_what_is_not_whole() {
+    assert_eq!(found(&[]), (vec![], 0));
+    let run = hex("0006D0020007 0008D0020008FF");
+    assert_eq!(found(&run), (vec![Found::Frame(2, 7, vec![])], 6));
+}
+
+#[test]
+fn segments_are_counted() {
+    let run = hex("0007D0030001AA 0007D0530001BB");
+    let all = salvage(&run);
+    assert!(matches!(
+        &all.entries[..],
+        [Entry::Frame { segments: 2, .. }]
+    ));
+}

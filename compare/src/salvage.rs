@@ -1,0 +1,105 @@
+//! The salvage reading, which the Rust doesn't have: the port's against a model written from document 01 alone, on damaged runs of
+//! every kind; and demand 3 directly.
+mod demand;
+mod model;
+mod runs;
+
+use crate::answers::{done, refused, Words};
+use crate::lent::Lent;
+use crate::rows::{frame_words, Call, Listed, Rows};
+use crate::{port, Chance, Tally};
+use model::{Entry, Frame, Salvage};
+
+/// The longest run, and the most entries of one.
+const MOST: usize = 700_000;
+const ENTRIES: usize = 512;
+
+pub fn compare(tally: &mut Tally, chance: &mut Chance, cases: u64) {
+    let mut held = Held {
+        run: Lent::new(MOST),
+        rows: Rows::new(MOST, ENTRIES),
+    };
+    runs::paper(tally, &mut held);
+    runs::few_words(tally, &mut held);
+    runs::tails(tally, &mut held);
+    runs::three(tally, &mut held);
+    runs::edges(tally, &mut held, chance);
+    runs::continuations(tally, &mut held, chance);
+    runs::many(tally, &mut held);
+    for case in 0..cases {
+        runs::random(tally, &mut held, chance);
+        if case % 4 == 0 {
+            demand::random(tally, &mut held, chance);
+        }
+    }
+}
+
+/// What is lent to the port.
+struct Held {
+    run: Lent<u8>,
+    rows: Rows,
+}
+
+impl Held {
+    /// Holds the port to the model on a run.
+    fn hold(&mut self, tally: &mut Tally, run: &[u8]) {
+        self.hold_in(tally, run, 8)
+    }
+
+    /// The same with so many words lent.
+    fn hold_in(&mut self, tally: &mut Tally, run: &[u8], words: usize) {
+        let listed = listed(&model::salvage(run));
+        self.hold_to(tally, "salvage", run, words, &listed)
+    }
+
+    /// Holds the port to a list.
+    fn hold_to(
+        &mut self,
+        tally: &mut Tally,
+        name: &'static str,
+        run: &[u8],
+        words: usize,
+        listed: &Listed,
+    ) {
+        let call = Call {
+            name,
+            at: 0,
+            words,
+            make: |_, loan| port::rows::salvage(loan),
+        };
+        self.run.lend_copy(run);
+        self.rows.hold(tally, &mut self.run, run, call, listed)
+    }
+}
+
+/// What the model hands out as the port lays it down: how many entries, how many bytes, the tail; a record for each entry.
+fn listed(salvage: &Salvage) -> Listed {
+    let (mut records, mut payloads) = (Vec::new(), Vec::new());
+    for entry in &salvage.entries {
+        records.push(match entry {
+            Entry::Frame(frame) => of_frame(frame, payloads.len()),
+            Entry::Refused(r) => refused(r.number as u64, r.place as u64, &[r.value as u64]),
+        });
+        if let Entry::Frame(frame) = entry {
+            payloads.extend_from_slice(&frame.payload);
+        }
+    }
+    let tail = salvage.tail as u64;
+    Listed::All {
+        words: done(&[records.len() as u64, payloads.len() as u64, tail]),
+        records,
+        payloads,
+    }
+}
+
+/// A frame's record, with its payload's place.
+fn of_frame(frame: &Frame, place: usize) -> Words {
+    let head = &frame.head;
+    let flag = |set: bool, bit: u64| if set { bit } else { 0 };
+    let format = head.kind as u64
+        + flag(head.chained, 0x40)
+        + flag(head.continue_on_error, 0x20)
+        + flag(head.same_correlation, 0x10);
+    let head = [head.length as u64, format, head.correlation as u64];
+    frame_words(place, head, frame.payload.len(), frame.segments as u64)
+}

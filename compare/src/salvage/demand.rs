@@ -1,0 +1,156 @@
+//! Demand 3 directly: frames that stand by themselves, written by the port or by the Rust, some of them spoilt. The salvage reading
+//! hands out "every other frame, in order and exactly as written, and one refusal at the first byte of each spoilt frame, and
+//! nothing else". What is due is made from what was sent, and nothing is read for it.
+use super::Held;
+use crate::answers::{done, refused, Words};
+use crate::port::{self, Loan};
+use crate::reader::long::any;
+use crate::rows::{frame_words, Listed};
+use crate::{Chance, Tally};
+use db2_proto::dss::{DssType, DssWriter};
+
+/// Payloads of two segments and more whose last one isn't full, and the longest of one segment.
+const LONG: [usize; 6] = [32_761, 32_762, 65_525, 65_527, 98_290, 98_292];
+
+/// Once in so many frames one is long.
+const TIMES: usize = 500;
+
+/// A frame to be sent.
+struct Sent {
+    kind: u8,
+    chained: bool,
+    same_correlation: bool,
+    correlation: u16,
+    payload: Vec<u8>,
+}
+
+/// A frame that stands by itself: "when same correlation is clear, or it needs more than one segment, or its payload has at least 5
+/// bytes and starts with an object built inline with code point above 0x0100".
+fn sent(chance: &mut Chance) -> Sent {
+    let mut len = match chance.below(TIMES) {
+        0 => LONG[chance.below(LONG.len())],
+        _ => chance.below(24),
+    };
+    let mut same_correlation = chance.below(2) == 0;
+    let mut payload = any(chance, len);
+    if same_correlation && len <= 32_761 {
+        len = len.max(5);
+        payload.resize(len, 0xC1);
+        let object = 4 + chance.below(len - 3);
+        let code_point = match chance.below(3) {
+            0 => 0x0101,
+            1 => 0xFFFF,
+            _ => 0x0101 + chance.below(0xFEFF),
+        };
+        payload[..2].copy_from_slice(&(object as u16).to_be_bytes());
+        payload[2..4].copy_from_slice(&(code_point as u16).to_be_bytes());
+    } else if chance.below(2) == 0 {
+        // Any bytes will do, also those that look like a continued object.
+        same_correlation = len > 32_761 && same_correlation;
+        let start = [0x80, 0x04, 0x24, 0x1B];
+        let most = len.min(4);
+        payload[..most].copy_from_slice(&start[..most]);
+    }
+    Sent {
+        kind: 1 + chance.below(4) as u8,
+        chained: chance.below(2) == 0,
+        same_correlation,
+        correlation: chance.next() as u16,
+        payload,
+    }
+}
+
+impl Sent {
+    fn flags(&self) -> u8 {
+        self.chained as u8 * 0x40 + self.same_correlation as u8 * 0x10
+    }
+
+    /// How many continuations it needs.
+    fn continuations(&self) -> usize {
+        self.payload.len().saturating_sub(32_761).div_ceil(32_765)
+    }
+
+    fn written_by_port(&self) -> Vec<u8> {
+        let mut room = vec![0; port::frame_size(self.payload.len())];
+        let (mut words, id, flags) = ([0; 8], self.correlation, self.flags());
+        let loan = Loan {
+            payload: &self.payload,
+            room: &mut room,
+            words: &mut words,
+        };
+        let number = port::write_dss_full(id, 0, self.kind, flags, loan);
+        assert!(number == 0, "the port's writer refuses a frame");
+        room
+    }
+
+    fn written_by_rust(&self) -> Vec<u8> {
+        let dss_type = DssType::from_byte(self.kind).expect("a type");
+        let mut writer = DssWriter::new(self.correlation);
+        writer.write_dss_full(dss_type, self.chained, self.same_correlation, &self.payload);
+        writer.finish()
+    }
+
+    /// The record that is due for it, with its payload's place in the room.
+    fn record(&self, place: usize) -> Words {
+        let continuations = self.continuations();
+        let length = match continuations {
+            0 => self.payload.len() + 6,
+            _ => 32_767,
+        };
+        let format = self.kind + self.flags();
+        let head = [length as u64, format as u64, self.correlation as u64];
+        frame_words(place, head, self.payload.len(), 1 + continuations as u64)
+    }
+
+    /// "spoil the magic byte or the type so that the head is refused; change its flags, correlation and payload bytes too, but no
+    /// length field": the refusal that is due where the frame starts at a place.
+    fn spoil(&self, chance: &mut Chance, bytes: &mut [u8], place: usize) -> Words {
+        let kept = bytes.to_vec();
+        for byte in &mut bytes[2..] {
+            if chance.below(3) == 0 {
+                *byte = chance.byte();
+            }
+        }
+        for segment in 0..=self.continuations() {
+            let field = segment * 32_767;
+            bytes[field..field + 2].copy_from_slice(&kept[field..field + 2]);
+        }
+        let low = [0, 5, 6, 7, 8, 9, 10, 11, 12, 13, 14, 15][chance.below(12)];
+        if chance.below(2) == 0 {
+            bytes[3] = bytes[3] & 0xF0 | low;
+            bytes[2] = 0xD0;
+            return refused(3, place as u64, &[low as u64]);
+        }
+        bytes[2] = chance.byte();
+        if bytes[2] == 0xD0 {
+            bytes[2] = 0xD1;
+        }
+        refused(2, place as u64, &[bytes[2] as u64])
+    }
+}
+
+/// A random list of such frames.
+pub fn random(tally: &mut Tally, held: &mut Held, chance: &mut Chance) {
+    let (mut run, mut records, mut payloads) = (Vec::new(), Vec::new(), Vec::new());
+    for _ in 0..chance.below(9) {
+        let frame = sent(chance);
+        let mut bytes = match chance.below(2) {
+            0 => frame.written_by_port(),
+            _ => frame.written_by_rust(),
+        };
+        if chance.below(3) == 0 {
+            records.push(frame.spoil(chance, &mut bytes, run.len()));
+        } else {
+            records.push(frame.record(payloads.len()));
+            payloads.extend_from_slice(&frame.payload);
+        }
+        run.extend(bytes);
+    }
+    let (count, bytes) = (records.len() as u64, payloads.len() as u64);
+    let due = Listed::All {
+        words: done(&[count, bytes, run.len() as u64]),
+        records,
+        payloads,
+    };
+    held.hold_to(tally, "demand 3", &run, 8, &due);
+}

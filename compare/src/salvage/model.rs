@@ -1,0 +1,250 @@
+//! The salvage reading as document 01 has it: its sentences in its order, each above what does it. It is written from that text
+//! alone, shares nothing with the port or with the rest of the comparison, and is meant to be read beside the document.
+
+/// What a salvage reading hands out: entries in order, and the tail's place.
+pub struct Salvage {
+    pub entries: Vec<Entry>,
+    pub tail: usize,
+}
+
+pub enum Entry {
+    Frame(Frame),
+    Refused(Refusal),
+}
+
+/// A frame: its head, its payload, and of how many segments it was made.
+pub struct Frame {
+    pub head: Head,
+    pub payload: Vec<u8>,
+    pub segments: usize,
+}
+
+/// A refusal: its number, its place, and the one value that 2, 3 and 7 carry.
+pub struct Refusal {
+    pub number: usize,
+    pub place: usize,
+    pub value: usize,
+}
+
+fn refusal(number: usize, place: usize, value: usize) -> Refusal {
+    Refusal {
+        number,
+        place,
+        value,
+    }
+}
+
+/// "The parsed head holds the type and the three flags beside its numbers."
+pub struct Head {
+    pub length: u16,
+    pub kind: u8,
+    pub chained: bool,
+    pub continue_on_error: bool,
+    pub same_correlation: bool,
+    pub correlation: u16,
+}
+
+const REQUEST: u8 = 1;
+const REPLY: u8 = 2;
+const OBJECT: u8 = 3;
+
+/// Two bytes as a number, big-endian.
+fn number(run: &[u8], place: usize) -> usize {
+    run[place] as usize * 256 + run[place + 1] as usize
+}
+
+// ---- "Modules in port order", 1
+
+/// "Parsing a head checks 4 (six bytes), 2, 3." Here six bytes are there.
+fn parse(run: &[u8], place: usize) -> Result<Head, Refusal> {
+    // 2: "magic not D0", "the byte".
+    let magic = run[place + 2];
+    if magic != 0xD0 {
+        return Err(refusal(2, place, magic as usize));
+    }
+    // "Format byte: low four bits the type (1 request, 2 reply, 3 object, 4 communication)". 3: "type not 1 to 4", "the low four
+    // bits".
+    let format = run[place + 3];
+    let kind = format & 0x0F;
+    if kind < 1 || kind > 4 {
+        return Err(refusal(3, place, kind as usize));
+    }
+    // "Raw 0xFFFF reads as length 32,767, every other raw length as itself, also 0x8000 to 0xFFFE."
+    let raw = number(run, place) as u16;
+    let length = if raw == 0xFFFF { 32_767 } else { raw };
+    // "0x40 chained, 0x20 continue on error, 0x10 same correlation; 0x80 is dropped."
+    Ok(Head {
+        length,
+        kind,
+        chained: format & 0x40 != 0,
+        continue_on_error: format & 0x20 != 0,
+        same_correlation: format & 0x10 != 0,
+        correlation: number(run, place + 4) as u16,
+    })
+}
+
+// ---- "Reading"
+
+/// A whole frame's own segments: the bytes behind the framing of each, from one place up to another, and the frame's end.
+struct Own {
+    parts: Vec<(usize, usize)>,
+    end: usize,
+}
+
+/// "The frame's end." Nothing where it isn't whole.
+fn own(run: &[u8], place: usize) -> Option<Own> {
+    let left = run.len() - place;
+    // "Fewer than six bytes: 1."
+    if left < 6 {
+        return None;
+    }
+    let raw = number(run, place);
+    // "Raw not 0xFFFF: whole when that many bytes are there."
+    if raw != 0xFFFF {
+        if left < raw {
+            return None;
+        }
+        let end = place + raw;
+        let parts = vec![(place + 6, end)];
+        return Some(Own { parts, end });
+    }
+    // "Raw 0xFFFF: 32,767 bytes, then continuations."
+    if left < 32_767 {
+        return None;
+    }
+    let mut parts = vec![(place + 6, place + 32_767)];
+    let mut at = place + 32_767;
+    loop {
+        let left = run.len() - at;
+        if left < 2 {
+            return None;
+        }
+        // "The decision by raw continuation length: 0 and 1 are never whole; 2 to 0x7FFE and 0x8000 to 0xFFFE are the last;
+        // 0x7FFF and 0xFFFF take 32,767 bytes and another must follow."
+        let raw = number(run, at);
+        let (takes, last) = match raw {
+            0 | 1 => return None,
+            0x7FFF | 0xFFFF => (32_767, false),
+            _ => (raw, true),
+        };
+        if left < takes {
+            return None;
+        }
+        parts.push((at + 2, at + takes));
+        at += takes;
+        if last {
+            return Some(Own { parts, end: at });
+        }
+    }
+}
+
+/// "head 2, 3, 7": the head of a whole frame.
+fn own_head(run: &[u8], place: usize) -> Result<Head, Refusal> {
+    let head = parse(run, place)?;
+    // 7: "DSS length below 6", "the length".
+    let raw = number(run, place);
+    if raw < 6 {
+        return Err(refusal(7, place, raw));
+    }
+    Ok(head)
+}
+
+/// The frame of a head and its own segments, with what it absorbs; and where that ends.
+fn read(run: &[u8], place: usize, mut head: Head, own: Own) -> (Frame, usize) {
+    let mut payload = Vec::new();
+    for (from, to) in &own.parts {
+        payload.extend_from_slice(&run[*from..*to]);
+    }
+    // "The answer counts segments: one, plus each continuation or absorbed segment."
+    let mut segments = own.parts.len();
+    let mut at = own.end;
+    // "A 0xFFFF frame is its chunks joined, head length 32,767, and nothing is absorbed. Any other frame then looks at what
+    // follows, again and again".
+    let looks = number(run, place) != 0xFFFF;
+    while looks {
+        // "Fewer than six bytes left: finished."
+        let left = run.len() - at;
+        if left < 6 {
+            break;
+        }
+        // "Parse the head there." Salvage: "A head refused while looking for segments to absorb closes the frame instead."
+        let Ok(next) = parse(run, at) else {
+            break;
+        };
+        // "Raw 0xFFFF, or same correlation clear: finished."
+        let length = number(run, at);
+        if length == 0xFFFF || !next.same_correlation {
+            break;
+        }
+        // "Finished unless the type equals the first frame's, or is object after a first reply or request."
+        let equals = next.kind == head.kind;
+        let object_after = next.kind == OBJECT && (head.kind == REPLY || head.kind == REQUEST);
+        if !equals && !object_after {
+            break;
+        }
+        // "Length beyond the run: finished."
+        if length > left {
+            break;
+        }
+        // "Length 0 to 5: refusal 7", which closes the frame, as above.
+        if length <= 5 {
+            break;
+        }
+        // "Length above 10, bytes 3 and 4 of its payload above 0x0100 as a number, and bytes 1 and 2 at most length - 2:
+        // finished, it is an object of its own."
+        if length > 10 && number(run, at + 8) > 0x0100 && number(run, at + 6) <= length - 2 {
+            break;
+        }
+        // "Else absorb it. If the payload so far has at least four bytes and starts 80 04, and this payload starts 7F FE or
+        // 7F FF, those two are dropped."
+        let mut this = &run[at + 6..at + length];
+        let extended = payload.len() >= 4 && payload.starts_with(&[0x80, 0x04]);
+        let marked = this.starts_with(&[0x7F, 0xFE]) || this.starts_with(&[0x7F, 0xFF]);
+        if extended && marked {
+            this = &this[2..];
+        }
+        payload.extend_from_slice(this);
+        // "The first head's chained flag becomes this one's."
+        head.chained = next.chained;
+        segments += 1;
+        at += length;
+    }
+    let frame = Frame {
+        head,
+        payload,
+        segments,
+    };
+    (frame, at)
+}
+
+// ---- "Salvage reading"
+
+pub fn salvage(run: &[u8]) -> Salvage {
+    let mut entries = Vec::new();
+    // "From byte 0".
+    let mut place = 0;
+    loop {
+        // "Not whole ends the walk with no entry. The tail's place, where the walk ended, is given".
+        let Some(own) = own(run, place) else {
+            break;
+        };
+        match own_head(run, place) {
+            Ok(head) => {
+                let (frame, end) = read(run, place, head, own);
+                entries.push(Entry::Frame(frame));
+                place = end;
+            }
+            // "A whole frame whose own head is refused becomes an entry with number and place, and is stepped over to its end;
+            // if its raw length is below 6 the walk ends there."
+            Err(refusal) => {
+                entries.push(Entry::Refused(refusal));
+                if number(run, place) < 6 {
+                    break;
+                }
+                place = own.end;
+            }
+        }
+    }
+    let tail = place;
+    Salvage { entries, tail }
+}

@@ -1,0 +1,90 @@
+-- What the calls that build lay down has DRDA volume 3's layout, and is read back as it was built; over the calls' contracts.
+use Prim.Native.Nat.{ℕ, _+_, _^_, _≤_, _<_}
+use native.Mathlib.Omega.{arith}
+use mathlib.Core.Path.{_≡_, refl, sym, ap, subst, subst₂, _∙_}
+use mathlib.Core.Bool.{Bool, false}
+use mathlib.Core.List.{List, [], _++_, append-nil}
+use borrow.Author.Tests.{le-leb, ne-eqb}
+use lib.ListN.{length, take, drop}
+use lib.Seq.{take-at, drop-at}
+use Rattle.wire.specs.Bytes.{and, be16, splice}
+use Rattle.wire.specs.Laws.{pick-yes}
+use Rattle.wire.specs.Octets.{Octets}
+use Rattle.wire.specs.Splice.{laid-fits}
+use Rattle.answer.specs.Rooms.{laidAtStart, Lays}
+use Rattle.answer.specs.declared.Laid.{Laid}
+use Rattle.layouts.specs.DdmLayout.{Ddm}
+use Rattle.ddm_length.specs.Markers.{hasMarkers}
+use Rattle.ddm_builder.specs.Built.{built}
+use Rattle.ddm_builder.specs.Builder.{objectOf, Builds}
+use Rattle.ddm_builder.specs.declared.DdmBuilder.{DdmBuilder}
+use Rattle.ddm_object.specs.ObjectCalls.{ObjectAt}
+use Rattle.ddm_object.specs.Data.{Given, given-of, run-data}
+use Rattle.ddm_object.specs.Records.{rec-in}
+use Rattle.ddm_object.specs.declared.DdmObject.{DdmObject}
+use Rattle.ddm_object.specs.declared.ObjectFound.{ObjectFound}
+use Rattle.ddm_object.specs.declared.ObjectFound.the-variants.{Object as Gives}
+use Rattle.ddm_laws.specs.Layout.{built-ddm}
+use Rattle.ddm_laws.specs.Complete.{Documented, short, long, read-ddm}
+use Rattle.ddm_laws.specs.Forms.{some-bytes}
+use Rattle.demands_ddm.specs.Reading.{LaidFirst, dataOf, headerOf, ReadsAs}
+use Rattle.demands_ddm.proofs.LayoutRead.{built-read}
+
+-- ---- laid down where there is room
+
+laid-first : (bytes room : List ℕ) (place : ℕ) (r : Laid) (after : List ℕ) → length bytes ≤ length room
+    → r ≡ laidAtStart place (length room) (length bytes) → after ≡ splice room 0 bytes → LaidFirst bytes room r after
+unfolding splice
+laid-first bytes room place r after h e q =
+    let n : 0 + length bytes ≡ length bytes = omega arith in
+    let w : after ≡ bytes ++ drop (length bytes) room = q ∙ ap (λ (m : ℕ). bytes ++ drop m room) n in
+    record {
+      is = e ∙ pick-yes _ _ (le-leb (length bytes) (length room) h);
+      first = ap (take (length bytes)) w ∙ take-at bytes (drop (length bytes) room) (length bytes) refl;
+      behind = ap (drop (length bytes)) w ∙ drop-at bytes (drop (length bytes) room) (length bytes) refl;
+      whole = w;
+    }
+
+pub lays-first : (bytes room : List ℕ) (r : Laid) (after : List ℕ) → length bytes ≤ length room → Lays bytes room r after → LaidFirst bytes room r after
+lays-first bytes room r after h p = laid-first bytes room 0 r after h (p .answers) (p .room-is ∙ laid-fits room 0 bytes (omega arith))
+
+-- `DdmBuilder::build`: of the filled part
+pub builds-first : (b : DdmBuilder) (content room : List ℕ) (r : Laid) (after : List ℕ) → b .fill ≤ length content → length (objectOf b content) ≤ length room
+    → Builds b content room r after → LaidFirst (objectOf b content) room r after
+builds-first b content room r after f h p =
+    laid-first (objectOf b content) room (b .fill) r after h (p .answers ∙ pick-yes _ _ (le-leb (b .fill) (length content) f))
+    (p .room-is ∙ pick-yes _ _ (le-leb (b .fill) (length content) f) ∙ laid-fits room 0 (objectOf b content) (omega arith))
+
+-- ---- an object laid down has the layout, and is read back
+
+module _ (cp : ℕ) (d room : List ℕ) (small : cp < 65536) (few : length d < 2 ^ 63) (r : Laid) (after : List ℕ) (w : LaidFirst (built cp d) room r after) where
+  pub laid-layout : Ddm cp d (take (length (built cp d)) after)
+  laid-layout = subst (Ddm cp d) (sym (w .first)) (built-ddm cp d few)
+
+  module _ (work : List ℕ) (x : ObjectFound) (workAfter : List ℕ) where
+    -- read from the room as it is
+    pub laid-parsed : ObjectAt after 0 work x workAfter → ReadsAs cp d after 0 (headerOf d) work x workAfter
+    laid-parsed p = built-read cp d small few after (drop (length (built cp d)) room) 0 (w .whole) work x workAfter p
+
+    -- read from the bytes answered alone
+    pub part-parsed : ObjectAt (take (length (built cp d)) after) 0 work x workAfter → ReadsAs cp d (take (length (built cp d)) after) 0 (headerOf d) work x workAfter
+    part-parsed p = built-read cp d small few (take (length (built cp d)) after) [] 0 (w .first ∙ sym (append-nil (built cp d))) work x workAfter p
+
+-- ---- and the other way: what is read has the layout, for the lengths that the volume knows
+
+not-all : {raw : ℕ} → Documented raw → raw ≡ 0x8004 → ⊥
+not-all (short h) e = omega arith
+not-all (long w q) e = omega (arith, some-bytes w)
+
+pub read-layout : (s : List ℕ) (place : ℕ) (work : List ℕ) (o : DdmObject) (after : List ℕ) → Octets (drop place s) → Documented (be16 (drop place s) 0)
+    → ObjectAt s place work (Gives o) after → (o .«in_work» ≡ false) × Ddm (o .«code_point») (dataOf s o) (take (o .consumed) (drop place s))
+read-layout s place work o after oct doc p =
+    let b : List ℕ = drop place s in
+    let g : Given s place (length work) o = given-of s place (length work) o (sym (p .answers)) in
+    let i : o .«in_work» ≡ false =
+    rec-in b place 0 work o (g .of) ∙ ap (λ (t : Bool). and t (hasMarkers (drop 4 b))) (ne-eqb (be16 b 0) 0x8004 (not-all doc)) in (
+      i,
+      subst (λ (n : ℕ). Ddm (o .«code_point») (dataOf s o) (take n b)) (ap (λ (x : DdmObject). x .consumed) (g .of .is))
+          (subst₂ (λ (c : ℕ) (d : List ℕ). Ddm c d (take (g .of .of .consumed) b)) (ap (λ (x : DdmObject). x .«code_point») (g .of .is)) (sym (run-data s place work o g i))
+          (read-ddm b place (g .of .of) oct (g .of .read) doc)),
+    )

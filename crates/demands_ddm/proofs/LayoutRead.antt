@@ -1,0 +1,130 @@
+-- Bytes that have DRDA volume 3's layout of an object are read as it says, wherever they stand and whatever follows; so are the bytes
+-- that are built.
+use Prim.Native.Nat.{ℕ, _+_, _-_, _^_, _≤_, _<_}
+use native.Mathlib.Omega.{arith}
+use mathlib.Core.Path.{_≡_, refl, sym, ap, ap₂, subst, _∙_}
+use mathlib.Core.Bool.{Bool, false}
+use mathlib.Core.List.{List, [], _++_, append-assoc}
+use borrow.Author.Tests.{le-leb, ne-eqb}
+use lib.Dec.{leb}
+use lib.ListN.{length, take, drop, length-append}
+use lib.Seq.{drop-drop, drop-at, take-at}
+use Rattle.wire.specs.Bytes.{pick, and, be16, two, laid}
+use Rattle.wire.specs.Laws.{pick-yes, pick-no, be16-front}
+use Rattle.wire.specs.Places.{here-length}
+use Rattle.wire.specs.Splice.{laid-fits, splice-none}
+use Rattle.layouts.specs.DdmLayout.{Ddm, inline, extended}
+use Rattle.ddm_length.specs.Markers.{hasMarkers}
+use Rattle.ddm_builder.specs.Built.{lengthBytes, built}
+use Rattle.ddm_builder.specs.Forms.{length-built, inline-bytes, four-bytes, six-bytes, eight-bytes}
+use Rattle.ddm_object.specs.Objects.{object, parsed}
+use Rattle.ddm_object.specs.ObjectCalls.{inWork, workOf, recordOf, givenParsed, workParsed, dataParsed, objectAt, ObjectAt}
+use Rattle.ddm_object.specs.Reads.{made, Reads}
+use Rattle.ddm_object.specs.declared.ObjectFound.{ObjectFound}
+use Rattle.ddm_object.specs.declared.ObjectFound.the-variants.{Object as Gives}
+use Rattle.ddm_laws.specs.Layout.{built-ddm, ddm-reads, ddm-raw}
+use Rattle.demands_ddm.specs.Reading.{plain, dataOf, headerOf, ReadsAs}
+
+-- the data are the last bytes
+pub ends-with : {cp : ℕ} {d p : List ℕ} → Ddm cp d p → (h : List ℕ) × (p ≡ h ++ d)
+ends-with {cp} {d} (inline k) = (two (length d + 4) ++ two cp, refl)
+ends-with {cp} {d} (extended k ls w e says) = (two (0x8004 + k) ++ (two cp ++ ls), refl)
+
+pub nothing-laid : (work : List ℕ) → laid work 0 [] ≡ work
+nothing-laid work = laid-fits work 0 [] (omega arith) ∙ splice-none work 0
+
+-- ---- bytes with the layout, at a place of a run
+
+module _ (cp : ℕ) (d p : List ℕ) (w : Ddm cp d p) (small : cp < 65536) (few : length d < 2 ^ 63) (s rest : List ℕ) (place : ℕ) (e : drop place s ≡ p ++ rest) where
+  reads : Reads p (made cp d (length p))
+  reads = ddm-reads cp d small few w
+
+  size : (length d ≤ length p) × (4 ≤ length p)
+  size = let h = ends-with w in (omega (arith, ap length (h .1), length-append (h .0) d), reads .four)
+
+  pub parsed-there : parsed (drop place s) place ≡ object (made cp d (length p))
+  parsed-there = ap (λ (b : List ℕ). parsed b place) e ∙ reads .back rest place
+
+  -- none of them goes through the work area
+  pub not-in-work : inWork (drop place s) ≡ false
+  not-in-work =
+      ap (λ (t : Bool). and t (hasMarkers (drop 4 (drop place s))))
+      (ne-eqb (be16 (drop place s) 0) 0x8004 (λ q. ddm-raw w (sym (be16-front p rest 0 (omega (arith, size))) ∙ ap (λ (b : List ℕ). be16 b 0) (sym e) ∙ q)))
+
+  pub no-work : workOf s place (made cp d (length p)) ≡ []
+  no-work = pick-no _ _ not-in-work
+
+  pub record-there : recordOf s place (made cp d (length p)) ≡ plain place cp (length p - length d) (length d)
+  record-there =
+      let n : length p ≡ (length p - length d) + length d = omega (arith, size) in
+      ap₂ (λ (t : Bool) (m : ℕ). record { «code_point» = cp; «in_work» = t; «data_at» = pick t 0 (place + (length p - length d)); «data_len» = length d; consumed = m }) not-in-work n
+
+  pub data-there : dataOf s (plain place cp (length p - length d) (length d)) ≡ d
+  data-there =
+      let h : List ℕ = ends-with w .0 in
+      let q : p ≡ h ++ d = ends-with w .1 in
+      let l : length h ≡ length p - length d = omega (arith, ap length q, length-append h d) in
+      ap (take (length d))
+      (sym (drop-drop (length p - length d) place s)
+      ∙ ap (drop (length p - length d)) (e ∙ ap (λ (b : List ℕ). b ++ rest) q ∙ append-assoc h d rest)
+      ∙ drop-at h (d ++ rest) (length p - length d) l)
+      ∙ take-at d rest (length d) refl
+
+  -- what the contract of `object_at` allows
+  pub layout-read : (work : List ℕ) (r : ObjectFound) (after : List ℕ) → ObjectAt s place work r after → ReadsAs cp d s place (length p - length d) work r after
+  unfolding objectAt
+  layout-read work r after x =
+      let l : length s - place ≡ length p + length rest = here-length s p rest place e in
+      record {
+        is =
+            x .answers
+            ∙ pick-yes _ _ (le-leb place (length s) (omega (arith, size)))
+            ∙ ap (givenParsed s place (length work)) parsed-there
+            ∙ pick-yes _ _ (ap (λ (b : List ℕ). leb (length b) (length work)) no-work ∙ le-leb 0 (length work) (omega arith))
+            ∙ ap Gives record-there;
+        data-is = data-there;
+        work-is = x .work-is ∙ ap (workParsed s place work) parsed-there ∙ ap (laid work 0) no-work ∙ nothing-laid work;
+      }
+
+  -- the bytes that `object_data` hands back
+  pub data-handed : (size : ℕ) → dataParsed s place size (parsed (drop place s) place) ≡ d
+  data-handed size =
+      ap (dataParsed s place size) parsed-there
+      ∙ pick-yes _ _ (ap (λ (b : List ℕ). leb (length b) size) no-work ∙ le-leb 0 size (omega arith))
+
+-- ---- what was built
+
+module _ (cp : ℕ) (d : List ℕ) (small : cp < 65536) (few : length d < 2 ^ 63) (s rest : List ℕ) (place : ℕ) (e : drop place s ≡ built cp d ++ rest) where
+  header : length (built cp d) - length d ≡ headerOf d
+  header = omega (arith, length-built cp d)
+
+  -- one law for every number of length bytes
+  pub built-read : (work : List ℕ) (r : ObjectFound) (after : List ℕ) → ObjectAt s place work r after → ReadsAs cp d s place (headerOf d) work r after
+  built-read work r after x =
+      subst (λ (h : ℕ). ReadsAs cp d s place h work r after) header (layout-read cp d (built cp d) (built-ddm cp d few) small few s rest place e work r after x)
+
+  pub built-record : (recordOf s place (made cp d (length (built cp d))) ≡ plain place cp (headerOf d) (length d)) × (dataOf s (plain place cp (headerOf d) (length d)) ≡ d)
+  built-record = (
+    record-there cp d (built cp d) (built-ddm cp d few) small few s rest place e ∙ ap (λ (h : ℕ). plain place cp h (length d)) header,
+    ap (λ (h : ℕ). dataOf s (plain place cp h (length d))) (sym header) ∙ data-there cp d (built cp d) (built-ddm cp d few) small few s rest place e,
+  )
+
+  pub built-data : (size : ℕ) → dataParsed s place size (parsed (drop place s) place) ≡ d
+  built-data = data-handed cp d (built cp d) (built-ddm cp d few) small few s rest place e
+
+  -- the four forms: inline, and with four, six or eight length bytes
+  module _ (work : List ℕ) (r : ObjectFound) (after : List ℕ) (x : ObjectAt s place work r after) where
+    with-bytes : (k : ℕ) → lengthBytes (length d) ≡ k → ReadsAs cp d s place (4 + k) work r after
+    with-bytes k q = subst (λ (j : ℕ). ReadsAs cp d s place (4 + j) work r after) q (built-read work r after x)
+
+    pub inline-read : length d ≤ 32763 → ReadsAs cp d s place 4 work r after
+    inline-read h = with-bytes 0 (inline-bytes (length d) h)
+
+    pub four-read : 32763 < length d → length d ≤ 2147483643 → ReadsAs cp d s place 8 work r after
+    four-read l h = with-bytes 4 (four-bytes (length d) l h)
+
+    pub six-read : 2147483643 < length d → length d ≤ 140737488355323 → ReadsAs cp d s place 10 work r after
+    six-read l h = with-bytes 6 (six-bytes (length d) l h)
+
+    pub eight-read : 140737488355323 < length d → ReadsAs cp d s place 12 work r after
+    eight-read l = with-bytes 8 (eight-bytes (length d) l)

@@ -1,0 +1,9 @@
+pub mod LayoutRead
+pub mod Listing
+pub mod Finding
+pub mod Building
+pub mod Stripping
+pub mod Requests
+pub mod Calls
+pub mod Examples
+pub mod RequestExample

@@ -1,0 +1,95 @@
+-- Objects built one behind the other: `parameters` and `parse_ddm_objects` list just those, and `find_param` gives the first with a
+-- code point.
+use Prim.Native.Nat.{ℕ, suc, _+_, _≤_}
+use native.Mathlib.Omega.{arith}
+use mathlib.Core.Path.{_≡_, refl, ap, ap₂, _∙_}
+use mathlib.Core.Bool.{true}
+use mathlib.Core.List.{List, [], _∷_, _++_}
+use borrow.Author.Tests.{le-leb}
+use lib.ListN.{length, drop}
+use Rattle.wire.specs.Bytes.{splice, landed}
+use Rattle.wire.specs.Laws.{pick-yes, and-both}
+use Rattle.wire.specs.Places.{here-next}
+use Rattle.wire.specs.Splice.{splice-none}
+use Rattle.ddm_builder.specs.Built.{built}
+use Rattle.ddm_object.specs.Objects.{Object, parameters, allObjects}
+use Rattle.ddm_object.specs.ObjectCalls.{worksOf, recordsOf, objectsFit, givenObjects, givenAll, listed, ParsesObjects, ListsParameters}
+use Rattle.ddm_object.specs.declared.DdmObject.{DdmObject}
+use Rattle.ddm_object.specs.declared.ObjectsFound.{ObjectsFound}
+use Rattle.ddm_object.specs.declared.ObjectsFound.the-variants.{Objects}
+use Rattle.ddm_laws.specs.Layout.{built-ddm}
+use Rattle.ddm_laws.specs.Lists.{joined, objectsOf, Fit, parameters-joined, objects-joined}
+use Rattle.demands_ddm.specs.Reading.{recordsBuilt, AllSay, ListsAs}
+use Rattle.demands_ddm.proofs.LayoutRead.{no-work, built-record}
+
+count : (l : List (ℕ × List ℕ)) → length (objectsOf l) ≡ length l
+count [] = refl
+count (x ∷ l) = ap suc (count l)
+
+-- from a place on: the records, no bytes of the work area, and what the records say
+record Rest (s : List ℕ) (place : ℕ) (l : List (ℕ × List ℕ)) : Type 0 where
+  records : recordsOf s place (objectsOf l) ≡ recordsBuilt place l
+  works : worksOf s place (objectsOf l) ≡ []
+  say : AllSay s l (recordsBuilt place l)
+
+rest-of : (l : List (ℕ × List ℕ)) → Fit l → (s : List ℕ) (place : ℕ) → drop place s ≡ joined l → Rest s place l
+unfolding recordsOf recordsBuilt worksOf AllSay
+rest-of [] g s place e = record { records = refl; works = refl; say = tt }
+rest-of (x ∷ l) g s place e =
+    let n : ℕ = length (built (x .0) (x .1)) in
+    let b = built-record (x .0) (x .1) (g .0) (g .1) s (joined l) place e in
+    let r : Rest s (place + n) l = rest-of l (g .2) s (place + n) (here-next s (built (x .0) (x .1)) (joined l) place (place + n) e refl) in
+    record {
+      records = ap₂ (λ (o : DdmObject) (os : List DdmObject). o ∷ os) (b .0) (r .records);
+      works = ap₂ (λ (v w : List ℕ). v ++ w) (no-work (x .0) (x .1) (built (x .0) (x .1)) (built-ddm (x .0) (x .1) (g .1)) (g .0) (g .1) s (joined l) place e) (r .works);
+      say = (refl, b .1, r .say);
+    }
+
+-- whatever call lists them
+module _ (l : List (ℕ × List ℕ)) (g : Fit l) (work : List ℕ) (row : List DdmObject) (h : length l ≤ length row) (r : ObjectsFound) (workAfter : List ℕ) (rowAfter : List DdmObject) where
+  abbrev s : List ℕ
+  s = joined l
+
+  all : Rest s 0 l
+  all = rest-of l g s 0 refl
+
+  fit : objectsFit s (objectsOf l) (length work) (length row) ≡ true
+  fit =
+      and-both _ _ (le-leb (length (worksOf s 0 (objectsOf l))) (length work) (omega (arith, ap length (all .works))))
+      (le-leb (length (objectsOf l)) (length row) (omega (arith, count l)))
+
+  given : givenObjects s (length work) (length row) (objectsOf l) ≡ Objects (length l) 0
+  given = pick-yes _ _ fit ∙ ap₂ (λ (n m : ℕ). Objects n m) (count l) (ap length (all .works))
+
+  lists-as : (os : List Object) → os ≡ objectsOf l → r ≡ Objects (length l) 0
+      → workAfter ≡ landed (objectsFit s os (length work) (length row)) work (worksOf s 0 os)
+      → rowAfter ≡ landed (objectsFit s os (length work) (length row)) row (recordsOf s 0 os)
+      → ListsAs l s work row r workAfter rowAfter
+  lists-as os e is w k =
+      record {
+        is = is;
+        row-is =
+            k
+            ∙ ap (λ (x : List Object). landed (objectsFit s x (length work) (length row)) row (recordsOf s 0 x)) e
+            ∙ pick-yes _ _ fit
+            ∙ ap (splice row 0) (all .records);
+        say = all .say;
+        work-is =
+            w
+            ∙ ap (λ (x : List Object). landed (objectsFit s x (length work) (length row)) work (worksOf s 0 x)) e
+            ∙ pick-yes _ _ fit
+            ∙ ap (splice work 0) (all .works)
+            ∙ splice-none work 0;
+      }
+
+  -- `parameters`, of an object's data
+  pub parameters-listed : ListsParameters (joined l) work row r workAfter rowAfter → ListsAs l (joined l) work row r workAfter rowAfter
+  parameters-listed p =
+      lists-as (parameters s) (parameters-joined l g)
+      (p .answers ∙ ap (givenObjects s (length work) (length row)) (parameters-joined l g) ∙ given) (p .work-is) (p .row-is)
+
+  -- `parse_ddm_objects`, of a run
+  pub objects-listed : ParsesObjects (joined l) work row r workAfter rowAfter → ListsAs l (joined l) work row r workAfter rowAfter
+  objects-listed p =
+      lists-as (listed (allObjects s)) (ap listed (objects-joined l g))
+      (p .answers ∙ ap (givenAll s (length work) (length row)) (objects-joined l g) ∙ given) (p .work-is) (p .row-is)

@@ -1,0 +1,113 @@
+-- An object built parameter by parameter is read back as that: the object with its code point, and in its data those parameters.
+use Prim.Native.Nat.{ℕ, _+_, _-_, _^_, _≤_, _<_}
+use native.Mathlib.Omega.{arith}
+use mathlib.Core.Path.{_≡_, refl, sym, ap, ap₂, subst, _∙_}
+use mathlib.Core.List.{List, [], _∷_, _++_, append-assoc, append-nil}
+use borrow.Author.Tests.{leb-true}
+use lib.Dec.{leb}
+use lib.ListN.{length, take, drop, length-append}
+use lib.Seq.{take-at, length-take-le}
+use Rattle.wire.specs.Bytes.{splice}
+use Rattle.wire.specs.Laws.{picked}
+use Rattle.wire.specs.Splice.{laid-fits}
+use Rattle.answer.specs.Rooms.{roomFor}
+use Rattle.answer.specs.declared.Laid.{Laid}
+use Rattle.answer.specs.declared.RoomFor.{RoomFor}
+use Rattle.answer.specs.declared.RoomFor.the-variants.{Enough, Refused as Refuses}
+use Rattle.ddm_builder.specs.Built.{built}
+use Rattle.ddm_builder.specs.Builder.{addedBy, Adds, objectOf, Builds}
+use Rattle.ddm_builder.specs.declared.DdmBuilder.{DdmBuilder}
+use Rattle.ddm_builder.specs.declared.Added.the-variants.{Done}
+use Rattle.ddm_object.specs.ObjectCalls.{ObjectAt, ListsParameters}
+use Rattle.ddm_object.specs.declared.DdmObject.{DdmObject}
+use Rattle.ddm_object.specs.declared.ObjectFound.{ObjectFound}
+use Rattle.ddm_object.specs.declared.ObjectFound.the-variants.{Object as Gives}
+use Rattle.ddm_object.specs.declared.ObjectsFound.{ObjectsFound}
+use Rattle.ddm_laws.specs.Lists.{joined, Fit}
+use Rattle.demands_ddm.specs.Reading.{plain, dataOf, headerOf, ReadsAs, ListsAs, Added, none, more}
+use Rattle.demands_ddm.proofs.Building.{builds-first, laid-parsed}
+use Rattle.demands_ddm.proofs.Listing.{parameters-listed}
+
+joined-append : (l m : List (ℕ × List ℕ)) → joined (l ++ m) ≡ joined l ++ joined m
+joined-append [] m = refl
+joined-append (x ∷ l) m = ap (λ (b : List ℕ). built (x .0) (x .1) ++ b) (joined-append l m) ∙ sym (append-assoc (built (x .0) (x .1)) (joined l) (joined m))
+
+-- what an addition that is answered 0 does: there was room, and the state and the room are so
+record AddedOne (b : DdmBuilder) (bytes now : List ℕ) (next : DdmBuilder) (after : List ℕ) : Type 0 where
+  fits : b .fill + length bytes ≤ length now
+  state : next ≡ record { «code_point» = b .«code_point»; fill = b .fill + length bytes }
+  room-is : after ≡ splice now (b .fill) bytes
+
+added-one : (b : DdmBuilder) (bytes now : List ℕ) (next : DdmBuilder) (after : List ℕ) → Adds b bytes now (Done next) after → AddedOne b bytes now next after
+added-one b bytes now next after p = go (roomFor (b .fill) (length now) (length bytes)) refl (p .answers)
+  where
+    fit : roomFor (b .fill) (length now) (length bytes) ≡ Enough → b .fill + length bytes ≤ length now
+    fit e =
+        picked (leb (b .fill) (length now)) e
+        (λ t k. picked (leb (length bytes) (length now - b .fill)) k
+        (λ u _. omega (arith, leb-true (b .fill) (length now) t, leb-true (length bytes) (length now - b .fill) u))
+        (λ u j. let z : _≡_ {A = ℕ} 0 1 = cc in absurd (omega arith)))
+        (λ t k. let z : _≡_ {A = ℕ} 0 1 = cc in absurd (omega arith))
+
+    go : (x : RoomFor) → roomFor (b .fill) (length now) (length bytes) ≡ x → Done next ≡ addedBy b (length bytes) x → AddedOne b bytes now next after
+    go Enough e q =
+        record {
+          fits = fit e;
+          state = cc;
+          room-is = p .room-is ∙ laid-fits now (b .fill) bytes (fit e);
+        }
+    go (Refuses r) e q = absurd (let z : _≡_ {A = ℕ} 0 1 = cc in omega arith)
+
+-- what the builder then has: its code point, and in the filled part of the room the parameters
+pub record Filled (cp : ℕ) (l : List (ℕ × List ℕ)) (b : DdmBuilder) (now : List ℕ) : Type 0 where
+  pub code-point : b .«code_point» ≡ cp
+  pub inside : b .fill ≤ length now
+  pub filled : take (b .fill) now ≡ joined l
+
+pub added-filled : {cp : ℕ} {room : List ℕ} {l : List (ℕ × List ℕ)} {b : DdmBuilder} {now : List ℕ} → Added cp room l b now → Filled cp l b now
+unfolding splice
+added-filled none = record { code-point = refl; inside = omega arith; filled = refl }
+added-filled {cp} {room} (more {l = l} {b = b} {now = now} a c d next after p) = go (added-filled a) (added-one b (built c d) now next after p)
+  where
+    go : Filled cp l b now → AddedOne b (built c d) now next after → Filled cp (l ++ ((c, d) ∷ [])) next after
+    go f o =
+        let n : ℕ = b .fill + length (built c d) in
+        let fill : next .fill ≡ n = ap (λ (x : DdmBuilder). x .fill) (o .state) in
+        let front : List ℕ = take (b .fill) now ++ built c d in
+        let l₀ : length (take (b .fill) now) ≡ b .fill = length-take-le (b .fill) now (f .inside) in
+        let l₁ : length front ≡ n = length-append (take (b .fill) now) (built c d) ∙ omega arith in
+        let w : after ≡ front ++ drop n now = o .room-is ∙ sym (append-assoc (take (b .fill) now) (built c d) (drop n now)) in
+        record {
+          code-point = ap (λ (x : DdmBuilder). x .«code_point») (o .state) ∙ f .code-point;
+          inside = omega (arith, ap length w, length-append front (drop n now));
+          filled =
+              ap₂ (λ (m : ℕ) (x : List ℕ). take m x) fill w
+              ∙ take-at front (drop n now) n l₁
+              ∙ ap₂ (λ (x y : List ℕ). x ++ y) (f .filled) (sym (append-nil (built c d)))
+              ∙ sym (joined-append l ((c, d) ∷ []));
+        }
+
+-- ---- built, read, and its parameters listed
+
+module _ (cp : ℕ) (l : List (ℕ × List ℕ)) (small : cp < 65536) (fit : Fit l) (few : length (joined l) < 2 ^ 63) (b : DdmBuilder) (content : List ℕ) (f : Filled cp l b content) where
+  object-is : objectOf b content ≡ built cp (joined l)
+  object-is = ap₂ (λ (c : ℕ) (d : List ℕ). built c d) (f .code-point) (f .filled)
+
+  module _ (room : List ℕ) (h : length (built cp (joined l)) ≤ length room) (laid : Laid) (after : List ℕ) (p : Builds b content room laid after) where
+    -- the object
+    pub request-parsed : (work : List ℕ) (r : ObjectFound) (workAfter : List ℕ) → ObjectAt after 0 work r workAfter → ReadsAs cp (joined l) after 0 (headerOf (joined l)) work r workAfter
+    request-parsed work r workAfter q =
+        let w = builds-first b content room laid after (f .inside) (omega (arith, ap length object-is)) p in
+        laid-parsed cp (joined l) room small few laid after (rw object-is at w) work r workAfter q
+
+    -- its parameters, read from the data that its record names
+    pub request-listed : (o : DdmObject) (work₀ workAfter₀ : List ℕ) → ObjectAt after 0 work₀ (Gives o) workAfter₀
+        → (work : List ℕ) (row : List DdmObject) → length l ≤ length row → (r : ObjectsFound) (workAfter : List ℕ) (rowAfter : List DdmObject)
+        → ListsParameters (dataOf after o) work row r workAfter rowAfter
+        → ListsAs l (dataOf after o) work row r workAfter rowAfter
+    request-listed o work₀ workAfter₀ q work row k r workAfter rowAfter x =
+        let v = request-parsed work₀ (Gives o) workAfter₀ q in
+        let same : o ≡ plain 0 cp (headerOf (joined l)) (length (joined l)) = cc (v .is) in
+        let e : dataOf after o ≡ joined l = ap (dataOf after) same ∙ v .data-is in
+        subst (λ (s : List ℕ). ListsAs l s work row r workAfter rowAfter) (sym e)
+        (parameters-listed l fit work row k r workAfter rowAfter (subst (λ (s : List ℕ). ListsParameters s work row r workAfter rowAfter) e x))

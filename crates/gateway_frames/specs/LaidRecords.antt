@@ -1,0 +1,135 @@
+-- The records' words laid into the row one after the other: what is left of them, and that the row they lead to is the definition's.
+use Prim.Native.Nat.{ℕ, suc, _+_, _*_, _-_, _≤_, _<_}
+use native.Mathlib.Omega.{arith}
+use mathlib.Core.Path.{_≡_, refl, sym, ap, _∙_, subst}
+use mathlib.Core.List.{List, _++_}
+use lib.ListN.{length}
+use borrow.Author.Tests.{leb-true}
+use lib.Dec.{leb}
+use Rattle.wire.specs.Bytes.{splice, laid}
+use Rattle.wire.specs.Laws.{by, pick-yes, pick-no, and-split}
+use Rattle.wire.specs.Splice.{splice-none}
+use Rattle.wire.specs.Lent.{tail, back}
+use Rattle.answer.specs.declared.Refused.{Refused}
+use Rattle.dss_frame.specs.Reading.{refused}
+use Rattle.dss_frame.specs.Frames.{AllRead, frames, refusedAll, allFrames}
+use Rattle.dss_frame.specs.Records.{payloadsOf}
+use Rattle.dss_frame.specs.declared.DssFrame.{DssFrame}
+use Rattle.dss_frame.specs.declared.Rules.the-variants.{Reader}
+use Rattle.dss_measure.specs.declared.FrameMeasure.{FrameMeasure}
+use Rattle.dss_measure.specs.declared.Measured.the-variants.{Frame as Gives, Refused as NotMeasured}
+use Rattle.dss_measure.specs.Measure.{measuredAt}
+use Rattle.dss_row.specs.declared.RowPlace.{RowPlace}
+use Rattle.dss_row.specs.declared.RecordFound.the-variants.{One, End}
+use Rattle.dss_row.specs.Measures.{Measures, measures, measured-not}
+use Rattle.dss_row.specs.Rows.{recordsFrom}
+use Rattle.dss_row.specs.RowLaws.{record-read, record-measured, records-step, records-none, records-all}
+use Rattle.dss_reader.specs.declared.FramesRead.{FramesRead}
+use Rattle.dss_reader.specs.Reader.{framesFit, givenAll}
+use Rattle.dss_reader.specs.Gathered.{Gathers, recordsIn}
+use Rattle.gateway_row.specs.RowWords.{recordWords, places, joined}
+use Rattle.gateway_row.specs.LaidWords.{Laying, laying-start, laying-end, laying-eight, joined-none, joined-more}
+use Rattle.gateway_frames.specs.FramesWords.{rowWords}
+
+abbrev placed : ℕ → ℕ → ℕ → RowPlace
+placed p a k = record { at = p; «payload_at» = a; left = k }
+
+-- the words of the k records from p on, the first one's payload at a
+abbrev pub wordsFrom : List ℕ → ℕ → ℕ → ℕ → List ℕ
+wordsFrom s p a k = joined recordWords (recordsFrom k s (placed p a k))
+
+-- while they are laid: k records are left, which fit behind the first n words, and their payloads go into the room no further than
+-- their frames into the run
+pub record Lays (s start aim row : List ℕ) (p a n k : ℕ) : Type 0 where
+  pub fits : n + 8 * k ≤ length row
+  pub low : a ≤ p
+  pub laying : Laying start aim row (wordsFrom s p a k) n
+
+pub lays-start : (s row : List ℕ) (p k : ℕ) → 8 * k ≤ length row → Lays s row (splice row 0 (wordsFrom s p 0 k)) row p 0 0 k
+lays-start s row p k h = record { fits = omega arith; low = omega arith; laying = laying-start row (wordsFrom s p 0 k) }
+
+-- the record of a measure
+abbrev pub measuredRecord : ℕ → FrameMeasure → DssFrame
+measuredRecord a m = record { header = m .header; «payload_at» = a; «payload_len» = m .«payload_len»; segments = m .segments }
+
+module _ (s start aim row : List ℕ) (p a n k : ℕ) (l : Lays s start aim row p a n k) where
+  -- none is left
+  pub lays-all : k ≡ 0 → row ≡ aim
+  lays-all h =
+      laying-end start aim row (wordsFrom s p a k) n (l .laying)
+      (ap (joined recordWords) (records-none k s (placed p a k) h) ∙ joined-none recordWords)
+
+  -- as many as are left: at least one
+  some : 0 < k → k ≡ suc (k - 1)
+  some h = omega arith
+
+  -- no frame stands there
+  pub lays-none : (x : Refused) → 0 < k → measuredAt Reader s p ≡ NotMeasured x → row ≡ aim
+  lays-none x h e =
+      laying-end start aim row (wordsFrom s p a k) n (l .laying)
+      (ap (λ (j : ℕ). joined recordWords (recordsFrom j s (placed p a k))) (some h)
+      ∙ ap (joined recordWords) (records-step (k - 1) s (placed p a k) End (sym (record-read s (placed p a k) (refused x) (λ z. omega arith) (measured-not Reader s p x e))))
+      ∙ joined-none recordWords)
+
+  module _ (m : FrameMeasure) (h : 0 < k) (e : measuredAt Reader s p ≡ Gives m) where
+    abbrev w : Measures Reader s p m
+    w = measures Reader s p m e
+
+    -- its payload lies in the run's length
+    pub lays-low : a + m .«payload_len» ≤ m .end
+    lays-low = omega (arith, l .low, w .thin)
+
+    pub lays-there : m .end ≤ length s
+    lays-there = w .there
+
+    one-left : wordsFrom s p a k ≡ recordWords (measuredRecord a m) ++ wordsFrom s (m .end) (a + m .«payload_len») (k - 1)
+    one-left =
+        ap (λ (j : ℕ). joined recordWords (recordsFrom j s (placed p a k))) (some h)
+        ∙ ap (joined recordWords)
+        (records-step (k - 1) s (placed p a k) (One (measuredRecord a m) (placed (m .end) (a + m .«payload_len») (k - 1)))
+        (sym (record-measured s (placed p a k) m (λ z. omega arith) w)))
+        ∙ joined-more recordWords (measuredRecord a m) (recordsFrom (k - 1) s (placed (m .end) (a + m .«payload_len») (k - 1)))
+
+    -- one more is laid
+    pub lays-more : (t : List ℕ) → t ≡ laid (tail row n) 0 (recordWords (measuredRecord a m))
+        → Lays s start aim (back row n t) (m .end) (a + m .«payload_len») (n + 8) (k - 1)
+    lays-more t i =
+        let g : Laying start aim (back row n t) (wordsFrom s (m .end) (a + m .«payload_len») (k - 1)) (n + 8) =
+        laying-eight start aim row (wordsFrom s p a k) n (l .laying) (recordWords (measuredRecord a m)) _ t one-left refl (omega (arith, l .fits)) i in
+        record { fits = omega (arith, l .fits, l .laying .long, g .long); low = lays-low; laying = g }
+
+-- ---- the whole row
+
+-- an answer has no more records than the row has places
+pub places-enough : (s : List ℕ) (p : ℕ) (room : List ℕ) (rows : ℕ) (r : FramesRead) (after : List ℕ) → Gathers s p room rows r after → recordsIn r ≤ rows
+places-enough s p room rows r after g = subst (λ (x : FramesRead). recordsIn x ≤ rows) (sym (g .answers)) (of-all (allFrames s p))
+  where
+    of-all : (a : AllRead) → recordsIn (givenAll s p (length room) rows a) ≤ rows
+    of-all (refusedAll r) = omega arith
+    of-all (frames fs q) =
+        by (framesFit s fs (length room) rows)
+        (λ t. subst (λ (x : FramesRead). recordsIn x ≤ rows) (sym (pick-yes _ _ t)) (leb-true (length fs) rows (and-split (leb (length (payloadsOf s fs)) (length room)) (leb (length fs) rows) t .1)))
+        (λ t. subst (λ (x : FramesRead). recordsIn x ≤ rows) (sym (pick-no _ _ t)) (omega arith))
+
+-- the row with so many records laid into it
+abbrev filled : List ℕ → ℕ → List ℕ → ℕ → List ℕ
+filled s p row k = splice row 0 (wordsFrom s p 0 k)
+
+filled-none : (s : List ℕ) (p : ℕ) (row : List ℕ) → filled s p row 0 ≡ row
+filled-none s p row =
+    ap (splice row 0) (ap (joined recordWords) (records-none 0 s (placed p 0 0) refl) ∙ joined-none recordWords) ∙ splice-none row 0
+
+filled-is : (s : List ℕ) (p size : ℕ) (row : List ℕ) (a : AllRead) → allFrames s p ≡ a → filled s p row (recordsIn (givenAll s p size (places row) a)) ≡ rowWords s size row a
+filled-is s p size row (refusedAll r) e = filled-none s p row
+filled-is s p size row (frames fs q) e =
+    by (framesFit s fs size (places row))
+    (λ t. ap (λ (r : FramesRead). filled s p row (recordsIn r)) (pick-yes _ _ t)
+    ∙ ap (λ (l : List DssFrame). splice row 0 (joined recordWords l)) (records-all fs (length fs) s p 0 q e (omega arith))
+    ∙ sym (pick-yes _ _ t))
+    (λ t. ap (λ (r : FramesRead). filled s p row (recordsIn r)) (pick-no _ _ t) ∙ filled-none s p row ∙ sym (pick-no _ _ t))
+
+-- what the row holds once the records of the answer are laid into it
+pub row-filled : (s : List ℕ) (p : ℕ) (room row : List ℕ) (r : FramesRead) (after row-after : List ℕ) (count : ℕ)
+    → Gathers s p room (places row) r after → count ≡ recordsIn r → row-after ≡ filled s p row count → row-after ≡ rowWords s (length room) row (allFrames s p)
+row-filled s p room row r after row-after count g c e =
+    e ∙ ap (filled s p row) (c ∙ ap recordsIn (g .answers)) ∙ filled-is s p (length room) row (allFrames s p) refl

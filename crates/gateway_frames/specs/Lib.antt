@@ -1,0 +1,2 @@
+pub mod FramesWords
+pub mod LaidRecords

@@ -1,0 +1,182 @@
+-- The entries' words laid into the row one after the other: what is left of them, and that the row they lead to is the definition's.
+use Prim.Native.Nat.{ℕ, suc, _+_, _*_, _-_, _≤_, _<_}
+use native.Mathlib.Omega.{arith}
+use mathlib.Core.Path.{_≡_, refl, sym, ap, _∙_, subst}
+use mathlib.Core.List.{List, [], _++_}
+use lib.Dec.{leb}
+use lib.ListN.{length}
+use borrow.Author.Tests.{leb-true}
+use Rattle.wire.specs.Bytes.{splice, laid, landed}
+use Rattle.wire.specs.Laws.{by, pick-yes, pick-no, and-split}
+use Rattle.wire.specs.Splice.{splice-none}
+use Rattle.wire.specs.Lent.{tail, back}
+use Rattle.answer.specs.declared.Refused.{Refused}
+use Rattle.dss_frame.specs.Salvage.{salvaged}
+use Rattle.dss_frame.specs.Salvage as reading
+use Rattle.dss_frame.specs.declared.DssFrame.{DssFrame}
+use Rattle.dss_laws.specs.Salvaging.{salvaged-from}
+use Rattle.dss_measure.specs.declared.FrameMeasure.{FrameMeasure}
+use Rattle.dss_salvage.specs.declared.Entry.the-variants.{Frame as Framed, Refused as Refuses}
+use Rattle.dss_salvage.specs.declared.SalvageEntry.{SalvageEntry}
+use Rattle.dss_salvage.specs.declared.Salvaged.{Salvaged}
+use Rattle.dss_salvage.specs.declared.Step.{Step}
+use Rattle.dss_salvage.specs.declared.Step.the-variants.{Frame, Over, Last, End as Ends}
+use Rattle.dss_salvage.specs.SalvageCall.{salvagedBytes, salvagedRow, entriesFit, given}
+use Rattle.dss_salvage.specs.Steps.{stepAt}
+use Rattle.dss_salvage.specs.Stepping.{OnFrame, OnOver, on-frame, on-over}
+use Rattle.dss_salvage_row.specs.declared.RowPlace.{RowPlace}
+use Rattle.dss_salvage_row.specs.declared.RecordFound.the-variants.{One, End}
+use Rattle.dss_salvage_row.specs.Entries.{placed, foundOf, recordsFrom}
+use Rattle.dss_salvage_row.specs.EntryLaws.{record-step, records-step, records-none, records-all}
+use Rattle.dss_salvage_call.specs.Gathered.{Gathers, entriesIn}
+use Rattle.gateway_words.specs.Words.{refusalWords}
+use Rattle.gateway_row.specs.RowWords.{recordWords, places, joined}
+use Rattle.gateway_row.specs.LaidWords.{Laying, laying-start, laying-end, laying-eight, joined-none, joined-more}
+use Rattle.gateway_salvage.specs.SalvageWords.{entryWords}
+
+-- the words of the k entries from p on, the first payload at a
+abbrev pub wordsFrom : List ℕ → ℕ → ℕ → ℕ → List ℕ
+wordsFrom s p a k = joined entryWords (recordsFrom k s (placed p a k))
+
+-- while they are laid: k entries are left, which fit behind the first n words, and their payloads go into the room no further than
+-- their frames into the run
+pub record Lays (s start aim row : List ℕ) (p a n k : ℕ) : Type 0 where
+  pub fits : n + 8 * k ≤ length row
+  pub low : a ≤ p
+  pub laying : Laying start aim row (wordsFrom s p a k) n
+
+pub lays-start : (s row : List ℕ) (k : ℕ) → 8 * k ≤ length row → Lays s row (splice row 0 (wordsFrom s 0 0 k)) row 0 0 0 k
+lays-start s row k h = record { fits = omega arith; low = omega arith; laying = laying-start row (wordsFrom s 0 0 k) }
+
+-- the record of a measure
+abbrev pub measuredRecord : ℕ → FrameMeasure → DssFrame
+measuredRecord a m = record { header = m .header; «payload_at» = a; «payload_len» = m .«payload_len»; segments = m .segments }
+
+abbrev refusing : Refused → SalvageEntry
+refusing r = record { entry = Refuses r }
+
+module _ (s start aim row : List ℕ) (p a n k : ℕ) (l : Lays s start aim row p a n k) where
+  -- none is left
+  pub lays-all : k ≡ 0 → row ≡ aim
+  lays-all h =
+      laying-end start aim row (wordsFrom s p a k) n (l .laying)
+      (ap (joined entryWords) (records-none k s (placed p a k) h) ∙ joined-none entryWords)
+
+  module _ (h : 0 < k) where
+    -- at least one is left
+    some : k ≡ suc (k - 1)
+    some = omega arith
+
+    -- no entry stands there
+    pub lays-end : stepAt s p ≡ Ends → row ≡ aim
+    lays-end e =
+        laying-end start aim row (wordsFrom s p a k) n (l .laying)
+        (ap (λ (j : ℕ). joined entryWords (recordsFrom j s (placed p a k))) some
+        ∙ ap (joined entryWords) (records-step (k - 1) s (placed p a k) End (sym (record-step s (placed p a k) Ends (λ z. omega arith) e)))
+        ∙ joined-none entryWords)
+
+    -- one, and those behind it
+    one-left : (x : SalvageEntry) (next : RowPlace) (t : Step) → stepAt s p ≡ t → One x next ≡ foundOf (placed p a k) t
+        → wordsFrom s p a k ≡ entryWords x ++ joined entryWords (recordsFrom (k - 1) s next)
+    one-left x next t e i =
+        ap (λ (j : ℕ). joined entryWords (recordsFrom j s (placed p a k))) some
+        ∙ ap (joined entryWords) (records-step (k - 1) s (placed p a k) (One x next) (i ∙ sym (record-step s (placed p a k) t (λ z. omega arith) e)))
+        ∙ joined-more entryWords x (recordsFrom (k - 1) s next)
+
+    -- its eight words are laid
+    abbrev Laid : List ℕ → List ℕ → Type 0
+    Laid t left = Laying start aim (back row n t) left (n + 8)
+
+    one-laid : (x : SalvageEntry) (left t : List ℕ) → wordsFrom s p a k ≡ entryWords x ++ left → length (entryWords x) ≡ 8 → t ≡ laid (tail row n) 0 (entryWords x) → Laid t left
+    one-laid x left t e w i = laying-eight start aim row (wordsFrom s p a k) n (l .laying) (entryWords x) left t e w (omega (arith, l .fits)) i
+
+    -- so the others fit
+    others : (q b : ℕ) (t : List ℕ) → b ≤ q → Laid t (wordsFrom s q b (k - 1)) → Lays s start aim (back row n t) q b (n + 8) (k - 1)
+    others q b t i g = record { fits = omega (arith, l .fits, l .laying .long, g .long); low = i; laying = g }
+
+    -- ---- a frame
+
+    module _ (m : FrameMeasure) (e : stepAt s p ≡ Frame m) where
+      abbrev w : OnFrame s p m
+      w = on-frame s p m e
+
+      -- its payload lies in the run's length
+      pub frame-low : a + m .«payload_len» ≤ m .end
+      frame-low = omega (arith, l .low, w .measured .thin)
+
+      pub frame-there : m .end ≤ length s
+      frame-there = w .measured .there
+
+      pub lays-frame : (t : List ℕ) → t ≡ laid (tail row n) 0 (recordWords (measuredRecord a m)) → Lays s start aim (back row n t) (m .end) (a + m .«payload_len») (n + 8) (k - 1)
+      lays-frame t i =
+          let x : SalvageEntry = record { entry = Framed (measuredRecord a m) } in
+          let q : ℕ = m .end in
+          let b : ℕ = a + m .«payload_len» in
+          others q b t frame-low (one-laid x (wordsFrom s q b (k - 1)) t (one-left x (placed q b (k - 1)) (Frame m) e refl) refl i)
+
+    -- ---- a refusal
+
+    module _ (r : Refused) where
+      -- that is stepped over
+      pub lays-over : (q : ℕ) (t : List ℕ) → stepAt s p ≡ Over r q → t ≡ laid (tail row n) 0 (refusalWords r) → Lays s start aim (back row n t) q a (n + 8) (k - 1)
+      lays-over q t e i =
+          let w : OnOver s p r q = on-over s p r q e in
+          others q a t (omega (arith, l .low, w .past))
+          (one-laid (refusing r) (wordsFrom s q a (k - 1)) t (one-left (refusing r) (placed q a (k - 1)) (Over r q) e refl) refl i)
+
+      module _ (t : List ℕ) (e : stepAt s p ≡ Last r) (i : t ≡ laid (tail row n) 0 (refusalWords r)) where
+        -- that the walk ends at
+        last-laid : Laid t []
+        last-laid =
+            one-laid (refusing r) [] t
+            (one-left (refusing r) (placed p a 0) (Last r) e refl
+            ∙ ap (λ (x : List ℕ). refusalWords r ++ x) (ap (joined entryWords) (records-none (k - 1) s (placed p a 0) refl) ∙ joined-none entryWords))
+            refl i
+
+        pub lays-last : back row n t ≡ aim
+        lays-last = laying-end start aim (back row n t) [] (n + 8) last-laid refl
+
+        pub last-long : length (back row n t) ≡ length start
+        last-long = last-laid .long
+
+-- ---- the whole row
+
+-- an answer has no more entries than the row has places
+pub places-enough : (s room : List ℕ) (rows : ℕ) (r : Salvaged) (after : List ℕ) → Gathers s room rows r after → entriesIn r ≤ rows
+places-enough s room rows r after g = subst (λ (x : Salvaged). entriesIn x ≤ rows) (sym (g .answers)) (of-all (salvaged s))
+  where
+    of-all : (x : reading.Salvaged) → entriesIn (given s (length room) rows x) ≤ rows
+    of-all x =
+        by (entriesFit s (x .entries) (length room) rows)
+        (λ t. subst (λ (y : Salvaged). entriesIn y ≤ rows) (sym (pick-yes _ _ t)) (leb-true (length (x .entries)) rows (and-split (leb (length (salvagedBytes s (x .entries))) (length room)) (leb (length (x .entries)) rows) t .1)))
+        (λ t. subst (λ (y : Salvaged). entriesIn y ≤ rows) (sym (pick-no _ _ t)) (omega arith))
+
+-- the row with so many entries laid into it
+abbrev filled : List ℕ → List ℕ → ℕ → List ℕ
+filled s row k = splice row 0 (wordsFrom s 0 0 k)
+
+filled-none : (s row : List ℕ) → filled s row 0 ≡ row
+filled-none s row =
+    ap (splice row 0) (ap (joined entryWords) (records-none 0 s (placed 0 0 0) refl) ∙ joined-none entryWords) ∙ splice-none row 0
+
+filled-all : (s row : List ℕ) → filled s row (length (salvaged s .entries)) ≡ splice row 0 (joined entryWords (salvagedRow s 0 (salvaged s .entries)))
+filled-all s row =
+    let i = salvaged-from s in
+    ap (λ (x : reading.Salvaged). filled s row (length (x .entries))) i
+    ∙ ap (λ (x : List SalvageEntry). splice row 0 (joined entryWords x)) (records-all _ s 0 0 (omega arith))
+    ∙ ap (λ (x : reading.Salvaged). splice row 0 (joined entryWords (salvagedRow s 0 (x .entries)))) (sym i)
+
+filled-is : (s : List ℕ) (size : ℕ) (row : List ℕ)
+    → filled s row (entriesIn (given s size (places row) (salvaged s)))
+    ≡ landed (entriesFit s (salvaged s .entries) size (places row)) row (joined entryWords (salvagedRow s 0 (salvaged s .entries)))
+filled-is s size row =
+    by (entriesFit s (salvaged s .entries) size (places row))
+    (λ t. ap (λ (x : Salvaged). filled s row (entriesIn x)) (pick-yes _ _ t) ∙ filled-all s row ∙ sym (pick-yes _ _ t))
+    (λ t. ap (λ (x : Salvaged). filled s row (entriesIn x)) (pick-no _ _ t) ∙ filled-none s row ∙ sym (pick-no _ _ t))
+
+-- what the row holds once the records of the answer are laid into it
+pub row-filled : (s room row : List ℕ) (r : Salvaged) (after row-after : List ℕ) (count : ℕ)
+    → Gathers s room (places row) r after → count ≡ entriesIn r → row-after ≡ filled s row count
+    → row-after ≡ landed (entriesFit s (salvaged s .entries) (length room) (places row)) row (joined entryWords (salvagedRow s 0 (salvaged s .entries)))
+row-filled s room row r after row-after count g c e =
+    e ∙ ap (filled s row) (c ∙ ap entriesIn (g .answers)) ∙ filled-is s (length room) row

@@ -1,0 +1,2 @@
+pub mod SalvageWords
+pub mod LaidEntries

@@ -1,0 +1,87 @@
+// The salvage reading for C and Rust: document 01, "Salvage reading". Slices, numbers and words go as in the crate gateway. The
+// row of entries is lent as words, eight a record.
+ghost use mathlib.Core.Path.{_≡_};
+ghost use Prim.Native.Nat.{_*_, _≤_};
+ghost use lib.ListN.{length};
+ghost use Rattle.wire.specs.Bytes.{splice};
+ghost use Rattle.dss_salvage_row.specs.Entries.{recordsFrom, startsAt};
+ghost use Rattle.gateway_words.specs.Words.{Answered};
+ghost use Rattle.gateway_row.specs.RowWords.{joined};
+ghost use Rattle.gateway_salvage.specs.SalvageWords.{entryWords, salvagedWords, SalvagesInWords};
+use dss_frame::DssFrame;
+use dss_salvage::Salvaged;
+use dss_salvage::Step;
+use gateway_row::put_frame;
+use gateway_words::put_done;
+use gateway_words::put_refusal;
+
+// The records of so many entries of a run, eight words each, with their payloads end to end.
+pub(crate) fn lay_entries(run: &[u8], count: usize, row: &mut [u64])
+    requires { ⌜ 8 * count ≤ length (now row) ⌝ }
+    ensures { λ _. ⌜ now (row .exit) ≡ splice (now (row .entry)) 0 (joined entryWords (recordsFrom count (now (run .entry)) (startsAt 0 count))) ⌝ }
+{
+    let mut at = 0;
+    let mut payload_at = 0;
+    let mut filled = 0;
+    let mut left = count;
+    while 0 < left {
+        match dss_salvage::entry_at(run, at) {
+            Step::Frame(measure) => {
+                let header = measure.header;
+                let payload_len = measure.payload_len;
+                let record = DssFrame {
+                    header,
+                    payload_at,
+                    payload_len,
+                    segments: measure.segments,
+                };
+                put_frame(&mut row[filled..], payload_at, record);
+                at = measure.end;
+                payload_at += payload_len;
+                filled += 8;
+                left -= 1;
+            }
+            Step::Over(refused, next) => {
+                put_refusal(&mut row[filled..], refused);
+                at = next;
+                filled += 8;
+                left -= 1;
+            }
+            Step::Last(refused) => {
+                put_refusal(&mut row[filled..], refused);
+                return;
+            }
+            Step::End => {
+                return;
+            }
+        }
+    }
+}
+
+// How many entries were listed, how many bytes their payloads have and the tail's place; or that there is no room.
+pub(crate) fn put_salvaged(words: &mut [u64], salvaged: Salvaged) -> u8
+    ensures { λ r. ⌜ Answered (salvagedWords salvaged) (now (words .entry)) r (now (words .exit)) ⌝ }
+{
+    match salvaged {
+        Salvaged::Done { count, bytes, tail } => {
+            put_done(words, count as u64, bytes as u64, tail as u64, 0)
+        }
+        Salvaged::Refused(refused) => put_refusal(words, refused),
+    }
+}
+
+// All that can be read of a run: the payloads of its frames end to end in the room, one record for each entry in the row.
+#[no_mangle]
+pub extern "C" fn lattrugone_salvage(
+    run: &[u8],
+    room: &mut [u8],
+    row: &mut [u64],
+    words: &mut [u64],
+) -> u8
+    ensures { λ r. ⌜ SalvagesInWords (now (run .entry)) (now (room .entry)) (now (row .entry)) (now (words .entry)) r (now (room .exit)) (now (row .exit)) (now (words .exit)) ⌝ }
+{
+    let salvaged = dss_salvage_call::gather(run, room, row.len() / 8);
+    let count = dss_salvage_call::entries_in(salvaged);
+    lay_entries(run, count, row);
+    put_salvaged(words, salvaged)
+}
