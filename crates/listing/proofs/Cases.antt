@@ -1,0 +1,35 @@
+-- The lists of a few inputs: document 01's own, one whose second frame is lost to the refusal behind it, and both sides of 65,536 bytes.
+use mathlib.Core.Path.{_≡_, refl}
+use mathlib.Core.List.{List, [], _∷_, _++_}
+use Prim.Native.Nat.{ℕ}
+use lib.ListN.{replicate}
+use Rattle.text.specs.Texts.{text}
+use Rattle.dss_frame.specs.declared.Rules.the-variants.{Reader, Salvage}
+use Rattle.listing.specs.Lists.{listText}
+
+-- `000AD00100010004200D`, and P2
+request : List ℕ
+request = 0x00 ∷ 0x0A ∷ 0xD0 ∷ 0x01 ∷ 0x00 ∷ 0x01 ∷ 0x00 ∷ 0x04 ∷ 0x20 ∷ 0x0D ∷ []
+
+reply : List ℕ
+reply = 0x00 ∷ 0x06 ∷ 0xD0 ∷ 0x02 ∷ 0x00 ∷ 0x07 ∷ []
+
+-- "Input .. as 16 bytes gives:"
+given : listText Reader (request ++ reply) ≡ text "at 0 request --- corr 1 seg 1 bytes 4\nat 10 reply --- corr 7 seg 1 bytes 0\nend 16 left 0\n"
+unfolding listText request reply
+given = refl
+
+-- with six zero bytes behind: the reader's look ahead refuses, and the frame already read is lost; salvage closes it, and ends there
+refusal : (listText Reader (request ++ (reply ++ replicate 6 0)) ≡ text "at 0 request --- corr 1 seg 1 bytes 4\nrefused 2 at 16 value 0\n")
+    × (listText Salvage (request ++ (reply ++ replicate 6 0))
+    ≡ text "at 0 request --- corr 1 seg 1 bytes 4\nat 10 reply --- corr 7 seg 1 bytes 0\nrefused 2 at 16 value 0\nend 16 left 6\n")
+unfolding listText request reply
+refusal = (refl, refl)
+
+-- nothing, and both sides of the most that is read
+edges : (listText Reader [] ≡ text "end 0 left 0\n")
+    × (listText Reader (replicate 65536 0) ≡ text "refused 2 at 0 value 0\n")
+    × (listText Reader (replicate 65537 0) ≡ text "input too long\n")
+    × (listText Salvage (replicate 65537 0) ≡ text "input too long\n")
+unfolding listText
+edges = (refl, refl, refl, refl)
