@@ -1,11 +1,17 @@
--- The lists of a few inputs: document 01's own, one whose second frame is lost to the refusal behind it, and both sides of 65,536 bytes.
-use mathlib.Core.Path.{_≡_, refl}
+-- The lists of a few inputs: document 01's own, one whose second frame is lost to the refusal behind it, both sides of
+-- 65,536 bytes, and the room that the programs lend.
+use mathlib.Core.Path.{_≡_, refl, ap, _∙_}
 use mathlib.Core.List.{List, [], _∷_, _++_}
 use Prim.Native.Nat.{ℕ}
-use lib.ListN.{replicate}
+use lib.ListN.{length, replicate, length-replicate}
+use Rattle.wire.specs.Bytes.{laid}
+use Rattle.wire.specs.Octets.{Octets, octets-tested}
+use Rattle.answer.specs.Rooms.{laidAtStart}
+use Rattle.answer.specs.declared.Laid.the-variants.{Bytes}
 use Rattle.text.specs.Texts.{text}
 use Rattle.dss_frame.specs.declared.Rules.the-variants.{Reader, Salvage}
 use Rattle.listing.specs.Lists.{listText}
+use Rattle.listing.proofs.Fits.{never-short}
 
 -- `000AD00100010004200D`, and P2
 request : List ℕ
@@ -33,3 +39,22 @@ edges : (listText Reader [] ≡ text "end 0 left 0\n")
     × (listText Salvage (replicate 65537 0) ≡ text "input too long\n")
 unfolding listText
 edges = (refl, refl, refl, refl)
+
+-- a room of so many bytes
+zeros : ℕ → List ℕ
+zeros n = replicate n 0
+
+zeros-length : (n : ℕ) → length (zeros n) ≡ n
+unfolding zeros
+zeros-length n = length-replicate n 0
+
+octets : Octets (request ++ reply)
+unfolding request reply
+octets = octets-tested (request ++ reply) refl
+
+-- the list in the room that the programs lend
+lent : laidAtStart 0 (length (zeros 720000)) (length (listText Reader (request ++ reply))) ≡ Bytes 89
+lent =
+    never-short Reader (request ++ reply) (zeros 720000) octets (zeros-length 720000) {after = laid (zeros 720000) 0 (listText Reader (request ++ reply))}
+    (record { answers = refl; room-is = refl })
+    ∙ ap (λ (t : List ℕ). Bytes (length t)) given

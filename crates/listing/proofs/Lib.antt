@@ -1,2 +1,5 @@
 pub mod Unique
 pub mod Cases
+pub mod Sizes
+pub mod Modest
+pub mod Fits

@@ -80,11 +80,11 @@ pub salvages-from : (s : List ℕ) → salvageText s ≡ salvagesFrom s 0
 unfolding salvageText salvagesFrom
 salvages-from s = ap (salvagedText s) (salvaged-from s)
 
-text-entry : (s : List ℕ) (p e : ℕ) (r : Read) (x : Salvaged) → salvagedText s (entry p e r x) ≡ entryLine s p r ++ salvagedText s x
+pub text-entry : (s : List ℕ) (p e : ℕ) (r : Read) (x : Salvaged) → salvagedText s (entry p e r x) ≡ entryLine s p r ++ salvagedText s x
 unfolding entryLines
 text-entry s p e r x = append-assoc (entryLine s p r) (entryLines s (x .entries)) (endLine s (x .tail))
 
-text-stop : (s : List ℕ) (p : ℕ) → salvagedText s (stop p) ≡ endLine s p
+pub text-stop : (s : List ℕ) (p : ℕ) → salvagedText s (stop p) ≡ endLine s p
 unfolding entryLines
 text-stop s p = refl
 

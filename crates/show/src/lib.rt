@@ -11,7 +11,7 @@ fn input_bytes() -> [u8; 65537]
     [0; 65537]
 }
 
-// More than the list of 65,536 bytes can have: ten for each byte, and the last line.
+// More than the list of 65,536 bytes can have: ten for each byte, and the last two lines (listing/proofs/Fits).
 fn text_bytes() -> [u8; 720000]
     ensures { λ r. ⌜ 720000 ≡ length r ⌝ }
 {
