@@ -101,7 +101,7 @@ fn argument(place: usize, otherwise: u64) -> u64 {
 }
 
 fn main() {
-    let cases = argument(1, 200_000);
+    let cases = argument(1, 1_000_000);
     let seed = argument(2, 1);
     println!("compare: {cases} random inputs a part, seed {seed}");
     let mut chance = Chance(seed.wrapping_mul(0x9E37_79B9_7F4A_7C15) | 1);
