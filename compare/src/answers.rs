@@ -144,6 +144,11 @@ impl Answer {
         self.and(kept)
     }
 
+    /// The number, the words, the bytes laid down in the room, the words laid down in a row.
+    pub fn parts(&self) -> (u8, &[u64], &[u8], &[u64]) {
+        (self.number, &self.words, &self.room.0, &self.row)
+    }
+
     fn and(mut self, kept: bool) -> Answer {
         self.rest_kept = self.rest_kept && kept;
         self

@@ -9,6 +9,7 @@ mod numbers;
 mod objects;
 mod params;
 pub mod port;
+pub mod record;
 mod rows;
 mod rust;
 

@@ -1,4 +1,6 @@
 //! Module 1 of document 01: heads, parsed and written. The port's functions against the Rust's DssHeader.
+pub mod record;
+
 use crate::answers::{answered, done, expected, of_error, refused, Answer, Words};
 use crate::lent::Lent;
 use crate::port::{self, Head};

@@ -39,7 +39,7 @@ fn raw_lengths(tally: &mut Tally) {
 /// is given a first segment of raw length FFFF, this continuation with as many bytes as any can take, and, where a full one
 /// ends, another of two bytes and then of three. The end moves with that other one exactly where this one is full. Of 0 and 1
 /// the Rust shows only that they are never whole, so that they are fewer than two bytes; that they are 0 and 1 is document 01's.
-fn continuation(run: &mut [u8], raw: u16) -> (u8, usize) {
+pub fn continuation(run: &mut [u8], raw: u16) -> (u8, usize) {
     run[..2].copy_from_slice(&[0xFF, 0xFF]);
     run[32767..32769].copy_from_slice(&raw.to_be_bytes());
     let mut end_before = |next: u8| {
@@ -71,7 +71,7 @@ fn format_bytes(tally: &mut Tally) {
     }
 }
 
-fn type_words(b: u8) -> Words {
+pub fn type_words(b: u8) -> Words {
     match DssType::from_byte(b) {
         Ok(dss_type) => done(&[dss_type.to_byte() as u64]),
         Err(error) => of_error(&error, 0),

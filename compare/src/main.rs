@@ -1,6 +1,6 @@
 //! Holds the port to the running Rust, and what the Rust doesn't have to document 01: the same input to both, and the answers,
 //! the words and every byte of each lent buffer compared. `compare [CASES] [SEED]`: how many random inputs each part tries
-//! besides those that it tries one and all, and which ones.
+//! besides those that it tries one and all, and which ones. `compare --record FILE` records the Rust's answers (record.rs).
 mod answers;
 mod ddm;
 mod head;
@@ -8,6 +8,7 @@ mod lengths;
 mod lent;
 mod port;
 mod reader;
+mod record;
 mod rows;
 mod salvage;
 mod stops;
@@ -100,7 +101,25 @@ fn argument(place: usize, otherwise: u64) -> u64 {
     }
 }
 
+/// `compare --record FILE`.
+fn record_list() -> ! {
+    let Some(path) = std::env::args().nth(2) else {
+        eprintln!("compare: --record wants a file");
+        std::process::exit(2);
+    };
+    let mut tally = Tally {
+        compared: 0,
+        different: 0,
+    };
+    record::record(&mut tally, &path);
+    tally.end();
+}
+
 fn main() {
+    stops::silence();
+    if std::env::args().nth(1).as_deref() == Some("--record") {
+        record_list();
+    }
     let cases = argument(1, 1_000_000);
     let seed = argument(2, 1);
     println!("compare: {cases} random inputs a part, seed {seed}");
@@ -109,7 +128,6 @@ fn main() {
         compared: 0,
         different: 0,
     };
-    stops::silence();
     lengths::compare(&mut tally);
     head::compare(&mut tally, &mut chance, cases);
     writer::compare(&mut tally, &mut chance, cases);

@@ -4,6 +4,7 @@
 mod all;
 mod case;
 pub mod long;
+pub mod record;
 pub mod runs;
 mod rust;
 pub mod short;

@@ -26,7 +26,7 @@ pub fn frame_words(place: usize, head: [u64; 3], payload: usize, segments: u64) 
 
 impl Listed {
     /// How many bytes and how many records are needed.
-    fn needs(&self) -> (usize, usize) {
+    pub fn needs(&self) -> (usize, usize) {
         match self {
             Listed::All {
                 records, payloads, ..
@@ -37,7 +37,7 @@ impl Listed {
 
     /// What a call comes to in a room of so many bytes and a row of so many words: 9 comes last, at the position as given. What
     /// is left of a row behind its last whole record is place for none.
-    fn answer(&self, at: usize, room: usize, row: usize, words: usize) -> Answer {
+    pub fn answer(&self, at: usize, room: usize, row: usize, words: usize) -> Answer {
         match self {
             Listed::Refused(answer) => expected(*answer, words),
             Listed::All {

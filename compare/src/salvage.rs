@@ -2,6 +2,7 @@
 //! every kind; and demand 3 directly.
 mod demand;
 mod model;
+pub mod record;
 mod runs;
 
 use crate::answers::{done, refused, Words};

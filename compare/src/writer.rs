@@ -2,6 +2,7 @@
 mod both;
 mod call;
 mod case;
+pub mod record;
 
 use crate::port;
 use crate::{Chance, Tally};

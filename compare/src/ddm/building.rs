@@ -35,7 +35,7 @@ pub fn every_call(cp: u16, val: u32) -> [Call; 7] {
 
 impl Call {
     /// Adds to a builder, from its fill mark on; the others start at the room's first byte.
-    fn adds(self) -> bool {
+    pub fn adds(self) -> bool {
         matches!(
             self,
             AddCodePoint { .. } | AddRaw | AddU16 { .. } | AddU32 { .. }
@@ -54,7 +54,7 @@ impl Call {
     }
 
     /// The bytes that the Rust lays down.
-    fn bytes(self, data: &[u8]) -> Vec<u8> {
+    pub fn bytes(self, data: &[u8]) -> Vec<u8> {
         match self {
             BuildParam { cp } => text::build_param(cp, data),
             BuildParamU16 { cp, value } => text::build_param_u16(cp, value),
@@ -95,7 +95,7 @@ impl Call {
 }
 
 /// What laying bytes down from a fill mark of a room comes to: 10, then 9; done with a number.
-fn laid(held: &Held, mark: usize, room: usize, bytes: &[u8], result: usize) -> Answer {
+pub fn laid(held: &Held, mark: usize, room: usize, bytes: &[u8], result: usize) -> Answer {
     let at = mark as u64;
     if room < mark {
         return held.answer(refused(10, at, &[at, room as u64]));

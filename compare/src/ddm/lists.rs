@@ -13,7 +13,7 @@ fn extended(width: usize, number: u64, code_point: u16, data: usize) -> Vec<u8> 
 
 /// What lists are put together from. Good ones: inline ones, of which two have the same code point and one is empty; extended
 /// ones, with the number that fits; one of raw length 0x8004, which takes all that follows.
-fn good() -> Vec<Vec<u8>> {
+pub fn good() -> Vec<Vec<u8>> {
     vec![
         headed(6, 0x2401, &[0xC1, 0xC2]),
         headed(5, 0x2402, &[0xC3]),
@@ -28,7 +28,7 @@ fn good() -> Vec<Vec<u8>> {
 
 /// And unfit ones: inline below 4; a header below 4; a header, a length and a number beyond the data; numbers that lose bits, of
 /// which the Rust takes the rest, and that wrap; one whose end wraps behind any four bytes.
-fn unfit() -> Vec<Vec<u8>> {
+pub fn unfit() -> Vec<Vec<u8>> {
     vec![
         headed(3, 0x2401, &[0xC1]),
         headed(0x8003, 0x2402, &[]),

@@ -112,7 +112,7 @@ impl Held {
 }
 
 /// 10, of a position.
-fn beyond(at: usize, len: usize) -> [u64; 8] {
+pub fn beyond(at: usize, len: usize) -> [u64; 8] {
     refused(10, at as u64, &[at as u64, len as u64])
 }
 

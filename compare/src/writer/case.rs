@@ -51,7 +51,7 @@ impl Case {
     }
 
     /// What the call comes to in a room of so many bytes: the Rust's refusal of the type, then 10, then 9, then its frame.
-    fn expected(&self, frame: &Frame, room: usize) -> Answer {
+    pub fn expected(&self, frame: &Frame, room: usize) -> Answer {
         let mark = self.fill as u64;
         let answer = match frame {
             Err(error) => of_error(error, 0),

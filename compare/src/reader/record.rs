@@ -1,0 +1,143 @@
+//! Module 3's answers for the list: runs read call by call, then all frames at once.
+pub mod runs;
+
+use super::all::{listed, to_end};
+use super::case::beyond;
+use super::rust::{next, position, Read};
+use super::PAPER;
+use crate::answers::{done, expected, refused, Answer};
+use crate::record::{Asked, List, FEW_WORDS};
+use crate::{Chance, Tally};
+use db2_proto::dss::DssReader;
+
+pub fn record(list: &mut List, tally: &mut Tally, chance: &mut Chance) {
+    let mut turn = 0;
+    for run in runs::all(chance) {
+        turn += 1;
+        whole(list, tally, &run, turn);
+    }
+    positions(list, tally);
+    few_words(list, tally);
+}
+
+/// A frame's end, or 1.
+fn end(run: &[u8], at: usize, words: usize) -> Answer {
+    let answer = match DssReader::first_complete_frame_len(&run[at..]) {
+        Some(end) => done(&[(at + end) as u64]),
+        None => refused(1, at as u64, &[]),
+    };
+    expected(answer, words)
+}
+
+/// What the calls say that read nothing.
+fn look(list: &mut List, reader: &DssReader, run: &[u8], at: usize, words: usize) {
+    let asked = |call: u64| Asked::new(call, &[at as u64], run).words(words);
+    list.number(asked(48), reader.remaining() as u64);
+    list.number(asked(49), reader.has_complete_frame() as u64);
+    list.answer(asked(50), 0, &end(run, at, words));
+}
+
+/// Reads a frame: into a room that is just enough, and into one that is short by one, longer or empty.
+fn read_in(list: &mut List, run: &[u8], at: usize, read: &Read, words: usize, turn: usize) {
+    let need = read.payload_len();
+    let other = [need.saturating_sub(1), need + 5, 0][turn % 3];
+    for room in [need, other] {
+        let asked = Asked::new(52, &[at as u64], run).room(room).words(words);
+        list.answer(asked, 0, &read.answer(at, room, words));
+    }
+}
+
+/// A run: its first frame's end; frame by frame until one is refused, of which one has the calls that read nothing; all frames,
+/// in a room and a row that are just enough, and in others.
+fn whole(list: &mut List, tally: &mut Tally, run: &[u8], turn: usize) {
+    list.answer(Asked::new(51, &[], run), 0, &end(run, 0, 8));
+    let mut reader = DssReader::new(run.to_vec());
+    let mut frames = 0;
+    loop {
+        let at = position(&reader, run);
+        if frames == turn % 2 {
+            look(list, &reader, run, at, 8);
+        }
+        let read = next(tally, &mut reader, run, 0);
+        read_in(list, run, at, &read, 8, turn + frames);
+        frames += 1;
+        if matches!(read, Read::Refused(_)) {
+            break;
+        }
+    }
+    all_at(list, tally, run, 0, 8, turn);
+}
+
+/// All frames from a place on.
+fn all_at(list: &mut List, tally: &mut Tally, run: &[u8], from: usize, words: usize, turn: usize) {
+    let rest = &run[from..];
+    let mut reader = DssReader::new(rest.to_vec());
+    let first = next(tally, &mut reader, rest, from);
+    let by_frame = to_end(tally, &mut reader, rest, from, first);
+    let frames = listed(run, from, &by_frame);
+    let (bytes, records) = frames.needs();
+    for (room, row) in rooms(bytes, records, turn) {
+        let asked = Asked::new(64, &[from as u64], run);
+        let answer = frames.answer(from, room, row, words);
+        list.answer(asked.room(room).row(row).words(words), 0, &answer);
+    }
+}
+
+/// A room and a row that are just enough for so many bytes and records, and others in turn: short, longer, none.
+pub fn rooms(bytes: usize, records: usize, turn: usize) -> [(usize, usize); 2] {
+    let row = 8 * records;
+    let other = match turn % 6 {
+        0 => (0, 0),
+        1 => (bytes.saturating_sub(1), row),
+        2 => (bytes, row.saturating_sub(1)),
+        3 => (bytes.saturating_sub(1), row.saturating_sub(8)),
+        4 => (bytes + 3, row + 8),
+        _ => (bytes, row + 7),
+    };
+    [(bytes, row), other]
+}
+
+/// Places that need not be a frame's, at the run's end, beyond it, and as far beyond it as numbers go.
+fn positions(list: &mut List, tally: &mut Tally) {
+    for (turn, run) in PAPER.into_iter().enumerate() {
+        for at in [1, 6, 7, run.len(), run.len() + 1, 1 << 63, usize::MAX] {
+            let Some(rest) = run.get(at..) else {
+                outside(list, run, at);
+                continue;
+            };
+            let mut reader = DssReader::new(rest.to_vec());
+            look(list, &reader, run, at, 8);
+            let read = next(tally, &mut reader, rest, at);
+            read_in(list, run, at, &read, 8, turn);
+            all_at(list, tally, run, at, 8, turn);
+        }
+    }
+}
+
+/// Beyond the run: 10.
+fn outside(list: &mut List, run: &[u8], at: usize) {
+    let asked = |call: u64| Asked::new(call, &[at as u64], run);
+    list.number(asked(48), 0);
+    list.number(asked(49), 0);
+    let answer = expected(beyond(at, run.len()), 8);
+    list.answer(asked(50), 0, &answer);
+    list.answer(asked(52).room(3), 0, &answer);
+    list.answer(asked(64).room(3).row(9), 0, &answer);
+}
+
+fn few_words(list: &mut List, tally: &mut Tally) {
+    for words in FEW_WORDS {
+        for run in [PAPER[1], PAPER[2], PAPER[4], PAPER[8]] {
+            list.answer(
+                Asked::new(51, &[], run).words(words),
+                0,
+                &end(run, 0, words),
+            );
+            let mut reader = DssReader::new(run.to_vec());
+            look(list, &reader, run, 0, words);
+            let read = next(tally, &mut reader, run, 0);
+            read_in(list, run, 0, &read, words, words);
+            all_at(list, tally, run, 0, words, words);
+        }
+    }
+}

@@ -1,0 +1,112 @@
+//! The runs that are recorded.
+use crate::reader::short::{frame, framed};
+use crate::reader::{runs, PAPER};
+use crate::record::counted;
+use crate::Chance;
+use db2_proto::dss::{DssType, DssWriter};
+
+/// Document 01's cases and every other pair of them, damaged and cut ones, frames around each edge, continuations, long segments, random
+/// ones. The salvage reading reads the same.
+pub fn all(chance: &mut Chance) -> Vec<Vec<u8>> {
+    let mut all = Vec::new();
+    for (i, first) in PAPER.into_iter().enumerate() {
+        all.push(first.to_vec());
+        for second in PAPER.into_iter().skip(i % 2).step_by(2) {
+            all.push([first, second].concat());
+        }
+    }
+    for _ in 0..66 {
+        let mut run = runs::random(chance, usize::MAX);
+        if chance.below(2) == 0 {
+            run.damage(chance);
+        }
+        if chance.below(3) == 0 {
+            let end = run.place(chance, 24).min(run.bytes.len());
+            run.bytes.truncate(end);
+        }
+        all.push(run.bytes);
+    }
+    all.extend(edges());
+    all.extend(continuations());
+    all.extend(absorbed());
+    all
+}
+
+/// The payload lengths at both sides of each edge.
+const EDGES: [usize; 9] = [
+    32_760, 32_761, 32_762, 65_525, 65_526, 65_527, 98_290, 98_291, 98_292,
+];
+
+/// Frames around each edge as the Rust writes them: alone, before a segment that could be absorbed, behind a frame of their
+/// type.
+fn edges() -> Vec<Vec<u8>> {
+    let types = [DssType::Request, DssType::Reply, DssType::Object];
+    let mut all = Vec::new();
+    for (i, len) in EDGES.into_iter().enumerate() {
+        let dss_type = types[i % 3];
+        let mut writer = DssWriter::new(0x0102);
+        writer.write_dss_full(dss_type, true, true, &counted(len, 7 * i as u16));
+        let alone = writer.finish();
+        all.push(alone[..alone.len() - 1].to_vec());
+        all.push([&alone[..], &framed(0x13, 9, &[0x7F, 0xFE, 0xC1])].concat());
+        all.push([&framed(dss_type.to_byte(), 1, &[0xAA])[..], &alone].concat());
+        all.push(alone);
+    }
+    all
+}
+
+/// The raw lengths of continuations.
+const RAWS: [u16; 11] = [
+    0, 1, 2, 3, 0x7FFD, 0x7FFE, 0x7FFF, 0x8000, 0x8001, 0xFFFE, 0xFFFF,
+];
+
+/// Continuations of each raw length, the first one or behind a full one, with a frame behind them; cut in and behind the length.
+fn continuations() -> Vec<Vec<u8>> {
+    let mut all = Vec::new();
+    for (i, raw) in RAWS.into_iter().enumerate() {
+        let takes = if [0x7FFF, 0xFFFF].contains(&raw) {
+            32_767
+        } else {
+            raw as usize
+        };
+        let mut run = frame(0xFFFF, 0x43, 7, &counted(32_761, i as u16));
+        if raw < 0x8000 && i % 2 == 0 {
+            run.extend([[0x7F, 0xFF], [0xFF, 0xFF]][i / 2 % 2]);
+            run.extend(counted(32_765, 99));
+        }
+        let place = run.len();
+        run.extend(raw.to_be_bytes());
+        run.extend(counted(takes.max(2) - 2, 1000));
+        all.push(run[..place + 1].to_vec());
+        all.push(run[..run.len() - 1].to_vec());
+        run.extend(framed(0x13, 7, &[0xC1, 0xC2]));
+        run[3] = if i % 4 == 3 { 0xD5 } else { 0x43 };
+        all.push(run);
+    }
+    all
+}
+
+/// Long segments absorbed, with and without a marker behind 80 04, and one cut by a byte.
+fn absorbed() -> Vec<Vec<u8>> {
+    let mut all = Vec::new();
+    for (first, second) in [
+        (0x7FFE, 0x8004),
+        (0x8000, 0x7FFF),
+        (0xFFFE, 0x7FFE),
+        (0x7FFF, 0xFFFE),
+    ] {
+        for start in [[0x80, 0x04], [0x80, 0x05]] {
+            let payload = [&start[..], &counted(first as usize - 8, 5)].concat();
+            let mut run = frame(first, 0x02, 1, &payload);
+            let payload = [
+                &[0x7F, 0xFE + first as u8 % 2, 0, 0][..],
+                &counted(second as usize - 10, 6),
+            ];
+            run.extend(frame(second, 0x53, 1, &payload.concat()));
+            all.push(run[..run.len() - 1].to_vec());
+            run.extend(framed(0x13, 1, &[0x7F, 0xFF, 0xC1]));
+            all.push(run);
+        }
+    }
+    all
+}

@@ -1,0 +1,208 @@
+//! The Rust's answers as a list, for the crate replay to make the same calls in the gate, where no Rust is: `compare --record
+//! FILE` writes it, always the same. Where the Rust has no answer, document 01's stands, as in the comparison.
+//!
+//! The list is numbers: how many answers, then each of them. A number below 248 is one byte; any other is 247 and how many bytes
+//! it has, then these, most significant first. An answer is what is asked (the call's number, four numbers, the lengths of room,
+//! row and words, the input) and what it comes to (what the call returns, twelve words, the sum of the room, that of the row).
+//! Before a call all bytes of the room are A5 and all words of words and row 90, so bytes and words that a call has to leave
+//! count too. An input is how many pieces it has, then these (record/input.rs).
+mod input;
+
+use crate::answers::Answer;
+use crate::{ddm, head, reader, salvage, writer, Chance, Tally};
+pub use input::counted;
+use std::collections::{BTreeMap, HashSet};
+
+/// What fills room, row and words.
+const BYTE: u8 = 0xA5;
+const WORD: u64 = 90;
+
+/// So many words are recorded, also where fewer are lent.
+const WORDS: usize = 12;
+
+/// Fewer than eight words stay as they are, and of more only eight are laid down: so many are lent, where not eight.
+pub const FEW_WORDS: [usize; 5] = [0, 1, 7, 9, 12];
+
+/// What replay has place for.
+const BYTES: usize = 147_456;
+const ROW: usize = 512;
+const LIST: usize = 524_288;
+
+/// The calls' numbers, each with how many there are.
+const CALLS: [(u64, u64); 10] = [
+    (0, 8),
+    (16, 6),
+    (32, 4),
+    (48, 5),
+    (64, 2),
+    (80, 5),
+    (96, 2),
+    (112, 5),
+    (128, 5),
+    (144, 3),
+];
+
+/// A call and what it is given.
+#[derive(Clone, Copy)]
+pub struct Asked<'a> {
+    call: u64,
+    numbers: [u64; 4],
+    input: &'a [u8],
+    room: usize,
+    row: usize,
+    words: usize,
+}
+
+impl<'a> Asked<'a> {
+    /// A call with some numbers and an input; no room, no row and eight words.
+    pub fn new(call: u64, numbers: &[u64], input: &'a [u8]) -> Asked<'a> {
+        let mut four = [0; 4];
+        four[..numbers.len()].copy_from_slice(numbers);
+        Asked {
+            call,
+            numbers: four,
+            input,
+            room: 0,
+            row: 0,
+            words: 8,
+        }
+    }
+
+    pub fn room(self, room: usize) -> Asked<'a> {
+        Asked { room, ..self }
+    }
+
+    pub fn row(self, row: usize) -> Asked<'a> {
+        Asked { row, ..self }
+    }
+
+    pub fn lent_words(&self) -> usize {
+        self.words
+    }
+
+    pub fn words(self, words: usize) -> Asked<'a> {
+        Asked { words, ..self }
+    }
+}
+
+/// The answers recorded so far.
+pub struct List {
+    bytes: Vec<u8>,
+    count: u64,
+    asked: HashSet<Vec<u8>>,
+    /// How often each call was recorded, and how often each answer number.
+    calls: BTreeMap<u64, u64>,
+    numbers: BTreeMap<u64, u64>,
+}
+
+impl List {
+    /// A call that returns a number and lays nothing down.
+    pub fn number(&mut self, asked: Asked, returned: u64) {
+        self.push(asked, returned, &[], (0, &[]), &[]);
+    }
+
+    /// A call that answers in words, and lays bytes down from a place of the room on.
+    pub fn answer(&mut self, asked: Asked, at: usize, answer: &Answer) {
+        let (number, words, room, row) = answer.parts();
+        *self.numbers.entry(number as u64).or_default() += 1;
+        self.push(asked, number as u64, words, (at, room), row);
+    }
+
+    /// Records an answer, once.
+    fn push(
+        &mut self,
+        asked: Asked,
+        returned: u64,
+        words: &[u64],
+        laid: (usize, &[u8]),
+        row: &[u64],
+    ) {
+        assert!(asked.input.len() <= BYTES && asked.room <= BYTES && asked.row <= ROW);
+        let mut bytes = Vec::new();
+        put(&mut bytes, asked.call);
+        for number in asked.numbers {
+            put(&mut bytes, number);
+        }
+        for length in [asked.room, asked.row, asked.words] {
+            put(&mut bytes, length as u64);
+        }
+        input::put_input(&mut bytes, asked.input);
+        if !self.asked.insert(bytes.clone()) {
+            return;
+        }
+        put(&mut bytes, returned);
+        let mut all_words = [WORD; WORDS];
+        all_words[..words.len()].copy_from_slice(words);
+        for word in all_words {
+            put(&mut bytes, word);
+        }
+        let mut room = vec![BYTE; asked.room];
+        let (at, part) = laid;
+        if !part.is_empty() {
+            room[at..at + part.len()].copy_from_slice(part);
+        }
+        put(&mut bytes, sum(room.iter().map(|b| *b as u64)));
+        let mut all_row = vec![WORD; asked.row];
+        all_row[..row.len()].copy_from_slice(row);
+        put(&mut bytes, sum(all_row.into_iter()));
+        self.bytes.extend(bytes);
+        self.count += 1;
+        *self.calls.entry(asked.call).or_default() += 1;
+    }
+
+    /// Every call and every answer number occurs.
+    fn is_full(&self) -> bool {
+        let mut calls = CALLS.iter().flat_map(|(from, count)| *from..from + count);
+        calls.all(|call| self.calls.contains_key(&call))
+            && (0..=11).all(|number| self.numbers.contains_key(&number))
+    }
+}
+
+/// A number as the list has it.
+fn put(bytes: &mut Vec<u8>, number: u64) {
+    if number < 248 {
+        bytes.push(number as u8);
+        return;
+    }
+    let spelled = number.to_be_bytes();
+    let zeros = number.leading_zeros() as usize / 8;
+    bytes.push(247 + (8 - zeros) as u8);
+    bytes.extend(&spelled[zeros..]);
+}
+
+/// 64-bit FNV-1a, of words with a word in the place of a byte; 0 of nothing.
+fn sum(units: impl ExactSizeIterator<Item = u64>) -> u64 {
+    if units.len() == 0 {
+        return 0;
+    }
+    units.fold(0xCBF2_9CE4_8422_2325, |sum, unit| {
+        (sum ^ unit).wrapping_mul(0x100_0000_01B3)
+    })
+}
+
+/// Records the list into a file; what the Rust says is held to document 01 on the way, as in the comparison.
+pub fn record(tally: &mut Tally, path: &str) {
+    let mut list = List {
+        bytes: Vec::new(),
+        count: 0,
+        asked: HashSet::new(),
+        calls: BTreeMap::new(),
+        numbers: BTreeMap::new(),
+    };
+    let mut chance = Chance(0x9E37_79B9_7F4A_7C15);
+    head::record::record(&mut list, &mut chance);
+    writer::record::record(&mut list);
+    reader::record::record(&mut list, tally, &mut chance);
+    salvage::record::record(&mut list, &mut chance);
+    ddm::record::record(&mut list, tally, &mut chance);
+    println!("answers by call: {:?}", list.calls);
+    println!("answers by number: {:?}", list.numbers);
+    assert!(tally.different == 0, "document 01 and the Rust differ");
+    assert!(list.is_full(), "a call or an answer number doesn't occur");
+    let mut bytes = Vec::new();
+    put(&mut bytes, list.count);
+    bytes.extend(&list.bytes);
+    println!("{} answers in {} bytes", list.count, bytes.len());
+    assert!(bytes.len() < LIST, "replay has no place for so long a list");
+    std::fs::write(path, &bytes).expect("a file that can be written");
+}
