@@ -261,7 +261,7 @@ pub(crate) fn lay_kept(data: &[u8], work: &mut [u8])
         let p = piece_at(data, at);
         let from = p.from;
         let to = p.to;
-        lay(&data[from..to], &mut work[fill..]);
+        wire::lay_at(&data[from..to], work, fill);
         fill += to - from;
         at = to;
     }

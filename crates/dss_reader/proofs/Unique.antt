@@ -31,6 +31,7 @@ use Rattle.dss_reader.proofs.DssReader.complete_frame_len.Reads as comp
 use Rattle.dss_reader.proofs.DssReader.has_complete_frame.Reads as has-complete-frame
 use Rattle.dss_reader.proofs.DssReader.first_complete_frame_len.Reads as first-complete-frame-len
 use Rattle.dss_reader.proofs.DssReader.next_frame.Reads as next-frame
+use Rattle.dss_reader.proofs.measure_frames.Reads as measure-frames
 use Rattle.dss_reader.proofs.DssReader.read_all_frames as read-all-frames
 
 pub new-one : (κs : Lfts 0) (r r′ : DssReader) → new.Post κs tt r tt → new.Post κs tt r′ tt → r ≡ r′
@@ -70,6 +71,13 @@ module _ (κs : Lfts 1) (d : DssReader) (run : RefT (List ℕ)) where
 
   pub first-complete-frame-len-some : first-complete-frame-len.Post κs (run, tt) (frameEnd (run .now) 0) (run, tt)
   first-complete-frame-len-some = refl
+
+module _ (κs : Lfts 1) (run : RefT (List ℕ)) (at size rows : ℕ) where
+  pub measure-frames-one : (r r′ : FramesRead) → measure-frames.Post κs (run, (at, (size, (rows, tt)))) r (run, (at, (size, (rows, tt)))) → measure-frames.Post κs (run, (at, (size, (rows, tt)))) r′ (run, (at, (size, (rows, tt)))) → r ≡ r′
+  measure-frames-one r r′ p q = p ∙ sym q
+
+  pub measure-frames-some : measure-frames.Post κs (run, (at, (size, (rows, tt)))) (givenAll (run .now) at size rows (allFrames (run .now) at)) (run, (at, (size, (rows, tt))))
+  measure-frames-some = refl
 
 module _ (κs : Lfts 2) (d : DssReader) (run room : RefT (List ℕ)) where
   -- the answer holds the position after

@@ -9,14 +9,16 @@ use lib.Dec.{leb}
 use lib.ListN.{length}
 use borrow.Author.Tests.{leb-true, le-leb, lt-leb}
 use Rattle.wire.specs.Bytes.{and, splice}
-use Rattle.wire.specs.Laws.{by, pick-yes, pick-no, and-both, and-split, and-no}
+use Rattle.wire.specs.Laws.{by, pick-yes, pick-no, picked, and-both, and-split, and-no}
 use Rattle.answer.specs.Rooms.{noRoom}
 use Rattle.answer.specs.declared.Refused.{Refused}
+use Rattle.dss_frame.specs.Reading.{Frame}
 use Rattle.dss_frame.specs.Frames.{AllRead, frames, refusedAll, allFrames}
 use Rattle.dss_frame.specs.Records.{payloadsOf}
 use Rattle.dss_frame.specs.declared.DssFrame.{DssFrame}
 use Rattle.dss_row.specs.Rows.{recordsFrom, startsAt}
 use Rattle.dss_row.specs.RowLaws.{records-none, records-all, splice-nothing}
+use Rattle.dss_reader.specs.declared.DssReader.{DssReader}
 use Rattle.dss_reader.specs.declared.FramesRead.{FramesRead}
 use Rattle.dss_reader.specs.declared.FramesRead.the-variants.{Frames, Refused as NoneRead}
 use Rattle.dss_reader.specs.Measuring.{Counted}
@@ -29,60 +31,95 @@ pub record Gathers (s : List ℕ) (p : ℕ) (room : List ℕ) (rows : ℕ) (r : 
   pub room-is : after ≡ roomAll s room rows (allFrames s p)
 
 -- any refusal but 9
-pub gathers-refused : (s : List ℕ) (p : ℕ) (room : List ℕ) (rows : ℕ) (x : Refused) → allFrames s p ≡ refusedAll x → Gathers s p room rows (NoneRead x (leftAt x)) room
-gathers-refused s p room rows x e =
-    record { answers = sym (ap (givenAll s p (length room) rows) e); room-is = sym (ap (roomAll s room rows) e) }
+pub answers-refused : (s : List ℕ) (p size rows : ℕ) (x : Refused) → allFrames s p ≡ refusedAll x → NoneRead x (leftAt x) ≡ givenAll s p size rows (allFrames s p)
+answers-refused s p size rows x e = sym (ap (givenAll s p size rows) e)
 
-module _ (room : List ℕ) (rows : ℕ) {s : List ℕ} {p count bytes end : ℕ} (w : Counted s p count bytes end) where
+module _ (size rows : ℕ) {s : List ℕ} {p count bytes end : ℕ} (w : Counted s p count bytes end) where
   abbrev fits : Bool
-  fits = framesFit s (w .read) (length room) rows
+  fits = framesFit s (w .read) size rows
 
   -- the bytes don't fit, or the records don't
-  pub wide-bytes : length room < bytes → fits ≡ false
-  wide-bytes h = rw (lt-leb (length (payloadsOf s (w .read))) (length room) (omega (arith, w .long)))
+  pub wide-bytes : size < bytes → fits ≡ false
+  wide-bytes h = rw (lt-leb (length (payloadsOf s (w .read))) size (omega (arith, w .long)))
 
   pub wide-records : rows < count → fits ≡ false
   wide-records h =
-      ap (and (leb (length (payloadsOf s (w .read))) (length room))) (lt-leb (length (w .read)) rows (omega (arith, w .counted)))
-      ∙ and-no (leb (length (payloadsOf s (w .read))) (length room))
+      ap (and (leb (length (payloadsOf s (w .read))) size)) (lt-leb (length (w .read)) rows (omega (arith, w .counted)))
+      ∙ and-no (leb (length (payloadsOf s (w .read))) size)
 
   -- 9
-  pub gathers-none : (r : FramesRead) → fits ≡ false → r ≡ NoneRead (noRoom p bytes count) (standsAt p) → Gathers s p room rows r room
-  gathers-none r t e =
-      record {
-        answers =
-            e
-            ∙ sym
-            (ap (givenAll s p (length room) rows) (w .is)
-            ∙ pick-no _ _ t
-            ∙ ap₂ (λ (b c : ℕ). NoneRead (noRoom p b c) (standsAt p)) (w .long) (w .counted));
-        room-is = sym (ap (roomAll s room rows) (w .is) ∙ pick-no _ _ t);
-      }
+  pub answers-none : (r : FramesRead) → fits ≡ false → r ≡ NoneRead (noRoom p bytes count) (standsAt p) → r ≡ givenAll s p size rows (allFrames s p)
+  answers-none r t e =
+      e
+      ∙ sym
+      (ap (givenAll s p size rows) (w .is)
+      ∙ pick-no _ _ t
+      ∙ ap₂ (λ (b c : ℕ). NoneRead (noRoom p b c) (standsAt p)) (w .long) (w .counted))
 
-  module _ (h : bytes ≤ length room) where
+  -- the frames
+  pub answers-frames : bytes ≤ size → count ≤ rows → Frames count bytes (standsAt end) ≡ givenAll s p size rows (allFrames s p)
+  answers-frames h k =
+      sym
+      (ap (givenAll s p size rows) (w .is)
+      ∙ pick-yes _ _ both
+      ∙ ap₂ (λ (b c : ℕ). Frames c b (standsAt end)) (w .long) (w .counted))
+    where
+      both : fits ≡ true
+      both =
+          and-both (leb (length (payloadsOf s (w .read))) size) (leb (length (w .read)) rows)
+          (le-leb (length (payloadsOf s (w .read))) size (omega (arith, w .long))) (le-leb (length (w .read)) rows (omega (arith, w .counted)))
+
+-- ---- what the room holds, of what was answered
+
+-- the frames that an answer is of: all fits
+pub record Fitted (s : List ℕ) (p size rows count : ℕ) : Type 0 where
+  pub read : List Frame
+  pub end : ℕ
+  pub is : allFrames s p ≡ frames read end
+  pub fit : framesFit s read size rows ≡ true
+  pub counted : length read ≡ count
+
+not-frames : (x : Refused) (d e : DssReader) (count bytes : ℕ) → NoneRead x d ≡ Frames count bytes e → ⊥
+not-frames x d e count bytes k = let z : _≡_ {A = ℕ} 0 1 = cc in omega arith
+
+module _ (s : List ℕ) (p size rows : ℕ) where
+  pub fitted : (r : FramesRead) (count bytes : ℕ) (d : DssReader) → r ≡ givenAll s p size rows (allFrames s p) → r ≡ Frames count bytes d → Fitted s p size rows count
+  fitted r count bytes d e k = of-all (allFrames s p) refl (sym e ∙ k)
+    where
+      of-all : (a : AllRead) → allFrames s p ≡ a → givenAll s p size rows a ≡ Frames count bytes d → Fitted s p size rows count
+      of-all (refusedAll x) i l = absurd (not-frames x _ _ _ _ l)
+      of-all (frames fs q) i l =
+          picked (framesFit s fs size rows) l (λ t m. record { read = fs; end = q; is = i; fit = t; counted = cc })
+          (λ t m. absurd (not-frames _ _ _ _ _ m))
+
+module _ (s : List ℕ) (p : ℕ) (room : List ℕ) (rows : ℕ) where
+  -- nothing is laid down
+  pub room-kept : (r : FramesRead) (x : Refused) (d : DssReader) → r ≡ givenAll s p (length room) rows (allFrames s p) → r ≡ NoneRead x d → room ≡ roomAll s room rows (allFrames s p)
+  room-kept r x d e k = of-all (allFrames s p) (sym e ∙ k)
+    where
+      of-all : (a : AllRead) → givenAll s p (length room) rows a ≡ NoneRead x d → room ≡ roomAll s room rows a
+      of-all (refusedAll y) l = refl
+      of-all (frames fs q) l =
+          picked (framesFit s fs (length room) rows) l (λ t m. absurd (not-frames x d _ _ _ (sym m)))
+          (λ t m. sym (pick-no _ _ t))
+
+  module _ {count : ℕ} (w : Fitted s p (length room) rows count) where
     -- what taking asks
     pub takes-asks : Fits s p room
-    takes-asks = record { read = w .read; end = end; is = w .is; fits = omega (arith, w .long) }
+    takes-asks =
+        let l = and-split (leb (length (payloadsOf s (w .read))) (length room)) (leb (length (w .read)) rows) (w .fit) in
+        record { read = w .read; end = w .end; is = w .is; fits = leb-true _ _ (l .0) }
 
-    -- the frames
-    pub gathers-frames : (after : List ℕ) → count ≤ rows → after ≡ splice room 0 (allPayloads s (allFrames s p)) → Gathers s p room rows (Frames count bytes (standsAt end)) after
-    gathers-frames after k e =
-        record {
-          answers =
-              sym
-              (ap (givenAll s p (length room) rows) (w .is)
-              ∙ pick-yes _ _ both
-              ∙ ap₂ (λ (b c : ℕ). Frames c b (standsAt end)) (w .long) (w .counted));
-          room-is =
-              e
-              ∙ ap (λ (a : AllRead). splice room 0 (allPayloads s a)) (w .is)
-              ∙ sym (ap (roomAll s room rows) (w .is) ∙ pick-yes _ _ both);
-        }
-      where
-        both : fits ≡ true
-        both =
-            and-both (leb (length (payloadsOf s (w .read))) (length room)) (leb (length (w .read)) rows)
-            (le-leb (length (payloadsOf s (w .read))) (length room) (omega (arith, w .long))) (le-leb (length (w .read)) rows (omega (arith, w .counted)))
+    pub asks-counted : length (takes-asks .read) ≡ count
+    unfolding takes-asks
+    asks-counted = w .counted
+
+    -- the payloads are
+    pub room-taken : (after : List ℕ) → after ≡ splice room 0 (allPayloads s (allFrames s p)) → after ≡ roomAll s room rows (allFrames s p)
+    room-taken after e =
+        e
+        ∙ ap (λ (a : AllRead). splice room 0 (allPayloads s a)) (w .is)
+        ∙ sym (ap (roomAll s room rows) (w .is) ∙ pick-yes _ _ (w .fit))
 
 -- ---- the records
 

@@ -1,5 +1,5 @@
 -- The laws of payloads taken into lent room: one frame's, and all of them end to end.
-use Prim.Native.Nat.{ℕ, _+_, _-_, _≤_}
+use Prim.Native.Nat.{ℕ, suc, _+_, _-_, _≤_, _<_}
 use native.Mathlib.Omega.{arith}
 use mathlib.Core.Path.{_≡_, refl, sym, ap, ap₂, _∙_}
 use mathlib.Core.List.{List, [], _∷_, _++_, append-nil}
@@ -22,7 +22,7 @@ use Rattle.dss_laws.specs.AllFrames.{frames-step, frames-more}
 use Rattle.dss_measure.specs.declared.FrameMeasure.{FrameMeasure}
 use Rattle.dss_measure.specs.declared.Measured.{Measured}
 use Rattle.dss_measure.specs.declared.Measured.the-variants.{Frame as Measures, Refused as NotMeasured}
-use Rattle.dss_measure.specs.Measure.{measureOf}
+use Rattle.dss_measure.specs.Measure.{measureOf, measuredOf, measuredAt}
 use Rattle.dss_take.specs.Take.{takenOf, roomRead, Takes}
 use Rattle.dss_reader.specs.declared.FrameRead.{FrameRead}
 use Rattle.dss_reader.specs.declared.FrameRead.the-variants.{Frame as Gives, Refused as NotRead}
@@ -112,6 +112,10 @@ pub record Taking (s : List ℕ) (whole : List ℕ) (room : List ℕ) (at mark :
 pub taking-start : (s : List ℕ) (p : ℕ) (room : List ℕ) → Fits s p room → Taking s (splice room 0 (allPayloads s (allFrames s p))) room p 0
 taking-start s p room w =
     record { left = w .read; end = w .end; is = w .is; fits = omega (arith, w .fits); same = ap (λ (a : AllRead). splice room 0 (allPayloads s a)) (w .is) }
+
+pub start-left : (s : List ℕ) (p : ℕ) (room : List ℕ) (w : Fits s p room) → length (taking-start s p room w .left) ≡ length (w .read)
+unfolding taking-start
+start-left s p room w = refl
 
 -- the tail of a room that was lent came back as t
 lent : (room : List ℕ) (mark : ℕ) (t : List ℕ) → take mark room ++ (t ++ drop (length room - mark) (drop mark room)) ≡ take mark room ++ t
@@ -206,6 +210,14 @@ module _ {s whole room : List ℕ} {at mark : ℕ} (w : Taking s whole room at m
       of-took : Took s at tail m t → OfFrame (Past s at (at + 6)) (readAt Reader s at) → (at + 6 ≤ m .end) × (m .end ≤ length s)
       of-took o l = of-frame o (readAt Reader s at) refl l
 
+  -- nothing is read, so that none is left
+  none-left : (r : Refused) → readAt Reader s at ≡ refused r → w .left ≡ []
+  none-left r e =
+      let k : andOn at (refused r) (allFrames s) ≡ frames (w .left) (w .end) = ap (λ (a : Read). andOn at a (allFrames s)) (sym e) ∙ sym (frames-step s at) ∙ w .is in
+      picked (eqb (numberOf (r .why)) 1) k
+      (λ t i. let z : [] ≡ w .left = cc in sym z)
+      (λ t i. let z : _≡_ {A = ℕ} 0 1 = cc in absurd (omega arith))
+
   -- the last was taken: the room is the one that was to come
   pub taking-done : (x : Refused) (a : Measured) → Takes Reader s at tail a t → a ≡ NotMeasured x → back ≡ whole
   unfolding payloadsOf
@@ -215,13 +227,37 @@ module _ {s whole room : List ℕ} {at mark : ℕ} (w : Taking s whole room at m
       ∙ ap (λ (l : List Frame). splice room mark (payloadsOf s l)) (sym (none-left r e))
       ∙ sym (w .same))
       (λ f e h. absurd (h (omega (arith, first-fits f e, tail-length))))
-    where
-      none-left : (r : Refused) → readAt Reader s at ≡ refused r → w .left ≡ []
-      none-left r e =
-          let k : andOn at (refused r) (allFrames s) ≡ frames (w .left) (w .end) = ap (λ (a : Read). andOn at a (allFrames s)) (sym e) ∙ sym (frames-step s at) ∙ w .is in
-          picked (eqb (numberOf (r .why)) 1) k
-          (λ t i. let z : [] ≡ w .left = cc in sym z)
-          (λ t i. let z : _≡_ {A = ℕ} 0 1 = cc in absurd (omega arith))
+
+  -- ---- the same, with how many are left
+
+  pub taking-measured : (m : FrameMeasure) (a : Measured) → Takes Reader s at tail a t → a ≡ Measures m → measuredAt Reader s at ≡ Measures m
+  unfolding measuredAt
+  taking-measured m a k i =
+      let o : Took s at tail m t = took s at tail t m a k i in
+      ap (measuredOf s at) (o .is) ∙ ap Measures (o .measure)
+
+  -- one fewer
+  pub taking-fewer : (m : FrameMeasure) (a : Measured) (k : Takes Reader s at tail a t) (i : a ≡ Measures m) → length (w .left) ≡ suc (length (taking-more m a k i .left))
+  unfolding taking-more
+  taking-fewer m a k i =
+      let o : Took s at tail m t = took s at tail t m a k i in
+      ap length (follows (o .read) (o .is) .cons)
+
+  -- where one is left, one is taken
+  pub taking-never : (x : Refused) (a : Measured) → Takes Reader s at tail a t → a ≡ NotMeasured x → 0 < length (w .left) → ⊥
+  taking-never x a k j h =
+      not-taken s at tail t x a k j (λ r e i. let z : length (w .left) ≡ 0 = ap length (none-left r e) in omega arith)
+      (λ f e l. l (omega (arith, first-fits f e, tail-length)))
+
+-- none is left: the room is the one that was to come
+no-frames : (fs : List Frame) → length fs ≡ 0 → fs ≡ []
+no-frames [] e = refl
+no-frames (f ∷ fs) e = absurd (omega arith)
+
+pub taking-empty : {s whole room : List ℕ} {at mark : ℕ} (w : Taking s whole room at mark) → length (w .left) ≡ 0 → room ≡ whole
+unfolding payloadsOf
+taking-empty {s} {whole} {room} {at} {mark} w e =
+    sym (w .same ∙ ap (λ (l : List Frame). splice room mark (payloadsOf s l)) (no-frames (w .left) e) ∙ splice-none room mark)
 
 -- the mark lies inside the room, which has the bytes of the one that is to come
 pub taking-inside : {s whole room : List ℕ} {at mark : ℕ} → Taking s whole room at mark → mark ≤ length room

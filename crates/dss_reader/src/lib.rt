@@ -5,7 +5,7 @@ ghost use lib.ListN.{length, drop};
 ghost use Rattle.wire.specs.Bytes.{splice};
 ghost use Rattle.answer.specs.Rooms.{noRoom};
 ghost use Rattle.dss_frame.specs.Frames.{allFrames};
-ghost use Rattle.dss_reader.specs.Reader.{standsAt, frameEnd, isEnd, NextFrame, ReadAllFrames};
+ghost use Rattle.dss_reader.specs.Reader.{standsAt, frameEnd, isEnd, NextFrame, givenAll, ReadAllFrames};
 ghost use Rattle.dss_reader.specs.Gathered.{Gathers, recordsIn};
 ghost use Rattle.dss_reader.specs.Measuring.{measuredAll};
 ghost use Rattle.dss_reader.specs.Taking.{allPayloads, Fits};
@@ -139,9 +139,10 @@ pub(crate) fn no_room(at: usize, bytes: usize, records: usize) -> FramesRead
     FramesRead::Refused(Refused { why, place: at }, DssReader { position: at })
 }
 
-// All frames from a place on for a row of so many records, their payloads in the room: all refusals, 9 last.
-pub fn read_all(run: &[u8], at: usize, room: &mut [u8], rows: usize) -> FramesRead
-    ensures { λ r. ⌜ Gathers (now (run .entry)) at (now (room .entry)) rows r (now (room .exit)) ⌝ }
+// What reading all frames from a place on answers, for a room of so many bytes and a row of so many records: all refusals, 9
+// last. Touches nothing.
+pub fn measure_frames(run: &[u8], at: usize, size: usize, rows: usize) -> FramesRead
+    ensures { λ r. ⌜ r ≡ givenAll (now (run .entry)) at size rows (allFrames (now (run .entry)) at) ⌝ }
 {
     match measure_all(run, at) {
         AllMeasured::Refused(refused) => {
@@ -149,18 +150,35 @@ pub fn read_all(run: &[u8], at: usize, room: &mut [u8], rows: usize) -> FramesRe
             FramesRead::Refused(refused, DssReader { position })
         }
         AllMeasured::Frames { count, bytes, end } => {
-            if room.len() < bytes {
+            if size < bytes {
                 return no_room(at, bytes, count);
             }
             if rows < count {
                 return no_room(at, bytes, count);
             }
-            take_all(run, at, room);
             FramesRead::Frames {
                 count,
                 bytes,
                 reader: DssReader { position: end },
             }
+        }
+    }
+}
+
+// The same, and the payloads in the room where all fits.
+pub fn read_all(run: &[u8], at: usize, room: &mut [u8], rows: usize) -> FramesRead
+    ensures { λ r. ⌜ Gathers (now (run .entry)) at (now (room .entry)) rows r (now (room .exit)) ⌝ }
+{
+    let read = measure_frames(run, at, room.len(), rows);
+    match read {
+        FramesRead::Refused(_, _) => read,
+        FramesRead::Frames {
+            count: _,
+            bytes: _,
+            reader: _,
+        } => {
+            take_all(run, at, room);
+            read
         }
     }
 }

@@ -52,6 +52,11 @@ module _ {rules : Rules} {s : List ℕ} {p : ℕ} {m : FrameMeasure} (w : Measur
   long : length payload ≡ m .«payload_len»
   long = ap (λ (x : FrameMeasure). x .«payload_len») (w .measure)
 
+  pub takes-size : m .«payload_len» ≡ length (payloadAt rules s p)
+  takes-size =
+      let v : Fits rules s p payload = record { read = w .read; is = w .is; fits = omega arith } in
+      sym (ap length (payload-is v) ∙ long)
+
   pub takes-typed : Typed rules s p (m .header .«dss_type»)
   takes-typed f k =
       let z : frame f ≡ frame (w .read) = sym k ∙ w .is in

@@ -30,7 +30,7 @@ pub(crate) fn copy_part(run: &[u8], from: usize, end: usize, room: &mut [u8], at
     requires { ⌜ (from ≤ end) × (end ≤ length (now run)) × (at + (end - from) ≤ length (now room)) ⌝ }
     ensures { λ _. ⌜ now (room .exit) ≡ splice (now (room .entry)) at (part (now (run .entry)) from end) ⌝ }
 {
-    bytes::copy(&run[from..end], &mut room[at..]);
+    wire::lay_at(&run[from..end], room, at);
 }
 
 // The payload of a frame of raw length 0xFFFF: its first segment's, and each continuation's up to the last.
@@ -73,16 +73,24 @@ pub(crate) fn starts_extended(room: &[u8], fill: usize) -> bool
     wire::u16_at(room, 0) == 0x8004
 }
 
-// The payload of any other frame, whose head has this type: its first segment's, and what each segment that it absorbs adds.
-pub(crate) fn copy_absorbed(rules: Rules, run: &[u8], at: usize, first: DssType, room: &mut [u8])
-    requires { ⌜ Fits rules (now run) at (now room) × Typed rules (now run) at first × (be16 (now run) at ≡ 0xFFFF → ⊥) ⌝ }
+// The payload of any other frame, whose head has this type and whose payload this length: its first segment's, and what each
+// segment that it absorbs adds. Once all of it is there, nothing more is looked at.
+pub(crate) fn copy_absorbed(
+    rules: Rules,
+    run: &[u8],
+    at: usize,
+    first: DssType,
+    need: usize,
+    room: &mut [u8],
+)
+    requires { ⌜ Fits rules (now run) at (now room) × Typed rules (now run) at first × (be16 (now run) at ≡ 0xFFFF → ⊥) × (need ≡ length (payloadAt rules (now run) at)) ⌝ }
     ensures { λ _. ⌜ now (room .exit) ≡ splice (now (room .entry)) 0 (payloadAt rules (now (run .entry)) at) ⌝ }
 {
     let seg_len = wire::u16_at(run, at) as usize;
     let mut end = at + seg_len;
     let mut fill = seg_len - DSS_HEADER_LEN;
     copy_part(run, at + DSS_HEADER_LEN, end, room, 0);
-    loop {
+    while fill < need {
         let extended = starts_extended(room, fill);
         match dss_measure::look_behind(rules, run, first, extended, end) {
             Look::Finished => {
@@ -105,16 +113,23 @@ pub(crate) fn copy_absorbed(rules: Rules, run: &[u8], at: usize, first: DssType,
     }
 }
 
-// The payload of the frame at a place, whose head has this type, at the room's start.
-pub(crate) fn copy_frame(rules: Rules, run: &[u8], at: usize, first: DssType, room: &mut [u8])
-    requires { ⌜ Fits rules (now run) at (now room) × Typed rules (now run) at first ⌝ }
+// The payload of the frame at a place, whose head has this type and whose payload this length, at the room's start.
+pub(crate) fn copy_frame(
+    rules: Rules,
+    run: &[u8],
+    at: usize,
+    first: DssType,
+    need: usize,
+    room: &mut [u8],
+)
+    requires { ⌜ Fits rules (now run) at (now room) × Typed rules (now run) at first × (need ≡ length (payloadAt rules (now run) at)) ⌝ }
     ensures { λ _. ⌜ now (room .exit) ≡ splice (now (room .entry)) 0 (payloadAt rules (now (run .entry)) at) ⌝ }
 {
     if wire::u16_at(run, at) == 0xFFFF {
         copy_chunks(rules, run, at, room);
         return;
     }
-    copy_absorbed(rules, run, at, first, room);
+    copy_absorbed(rules, run, at, first, need, room);
 }
 
 // The frame at a place of a run, under either's rules, its payload laid at the room's start: all refusals, 9 last.
@@ -134,7 +149,7 @@ pub fn take(rules: Rules, run: &[u8], at: usize, room: &mut [u8]) -> Measured
             }
             let header = frame.header;
             let first = header.dss_type;
-            copy_frame(rules, run, at, first, room);
+            copy_frame(rules, run, at, first, need, room);
             Measured::Frame(frame)
         }
     }

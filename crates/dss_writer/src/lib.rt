@@ -111,7 +111,7 @@ pub(crate) fn lay_segment(
         raw_length,
         room,
     );
-    bytes::copy(bytes, &mut room[DSS_HEADER_LEN..]);
+    wire::lay_at(bytes, room, DSS_HEADER_LEN);
 }
 
 // A continuation at the room's start: its length, and its bytes.

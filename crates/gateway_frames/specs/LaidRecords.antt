@@ -17,8 +17,10 @@ use Rattle.dss_frame.specs.Records.{payloadsOf}
 use Rattle.dss_frame.specs.declared.DssFrame.{DssFrame}
 use Rattle.dss_frame.specs.declared.Rules.the-variants.{Reader}
 use Rattle.dss_measure.specs.declared.FrameMeasure.{FrameMeasure}
+use Rattle.dss_measure.specs.declared.Measured.{Measured}
 use Rattle.dss_measure.specs.declared.Measured.the-variants.{Frame as Gives, Refused as NotMeasured}
 use Rattle.dss_measure.specs.Measure.{measuredAt}
+use Rattle.dss_take.specs.Take.{Takes}
 use Rattle.dss_row.specs.declared.RowPlace.{RowPlace}
 use Rattle.dss_row.specs.declared.RecordFound.the-variants.{One, End}
 use Rattle.dss_row.specs.Measures.{Measures, measures, measured-not}
@@ -26,7 +28,8 @@ use Rattle.dss_row.specs.Rows.{recordsFrom}
 use Rattle.dss_row.specs.RowLaws.{record-read, record-measured, records-step, records-none, records-all}
 use Rattle.dss_reader.specs.declared.FramesRead.{FramesRead}
 use Rattle.dss_reader.specs.Reader.{framesFit, givenAll}
-use Rattle.dss_reader.specs.Gathered.{Gathers, recordsIn}
+use Rattle.dss_reader.specs.Gathered.{recordsIn}
+use Rattle.dss_reader.specs.Taking.{allPayloads, Fits, Taking as PayloadsTaken, taking-start, start-left, taking-more, taking-measured, taking-fewer, taking-never, taking-empty}
 use Rattle.gateway_row.specs.RowWords.{recordWords, places, joined}
 use Rattle.gateway_row.specs.LaidWords.{Laying, laying-start, laying-end, laying-eight, joined-none, joined-more}
 use Rattle.gateway_frames.specs.FramesWords.{rowWords}
@@ -98,11 +101,68 @@ module _ (s start aim row : List ℕ) (p a n k : ℕ) (l : Lays s start aim row 
         laying-eight start aim row (wordsFrom s p a k) n (l .laying) (recordWords (measuredRecord a m)) _ t one-left refl (omega (arith, l .fits)) i in
         record { fits = omega (arith, l .fits, l .laying .long, g .long); low = lays-low; laying = g }
 
+-- ---- payloads and records
+
+-- what taking frames asks: these are all that there are, and they fit
+pub record Asks (s : List ℕ) (p count : ℕ) (room row : List ℕ) : Type 0 where
+  pub payloads : Fits s p room
+  pub counted : length (payloads .read) ≡ count
+  pub records : 8 * count ≤ length row
+
+-- the room and the row then
+pub record Taken (s : List ℕ) (p count : ℕ) (room row room-after row-after : List ℕ) : Type 0 where
+  pub room-is : room-after ≡ splice room 0 (allPayloads s (allFrames s p))
+  pub row-is : row-after ≡ splice row 0 (wordsFrom s p 0 count)
+
+-- while they are taken: k are left, of the payloads and of the records
+pub record Taking (s whole start aim room row : List ℕ) (p a n k : ℕ) : Type 0 where
+  pub payloads : PayloadsTaken s whole room p a
+  pub counted : length (payloads .left) ≡ k
+  pub records : Lays s start aim row p a n k
+
+pub taking-starts : (s : List ℕ) (p count : ℕ) (room row : List ℕ) → Asks s p count room row
+    → Taking s (splice room 0 (allPayloads s (allFrames s p))) row (splice row 0 (wordsFrom s p 0 count)) room row p 0 0 count
+taking-starts s p count room row w =
+    record { payloads = taking-start s p room (w .payloads); counted = start-left s p room (w .payloads) ∙ w .counted; records = lays-start s row p count (w .records) }
+
+module _ {s whole start aim room row : List ℕ} {p a n k : ℕ} (w : Taking s whole start aim room row p a n k) where
+  -- none is left
+  pub taking-ends : k ≡ 0 → (room ≡ whole) × (row ≡ aim)
+  taking-ends h = (taking-empty (w .payloads) (w .counted ∙ h), lays-all s start aim row p a n k (w .records) h)
+
+  -- one is left, and it is taken into the room's tail, which comes back as t
+  module _ (h : 0 < k) (t : List ℕ) where
+    some-left : 0 < length (w .payloads .left)
+    some-left = omega (arith, w .counted)
+
+    pub taking-stays : (x : Refused) (r : Measured) → Takes Reader s p (tail room a) r t → r ≡ NotMeasured x → ⊥
+    taking-stays x r i e = taking-never (w .payloads) t x r i e some-left
+
+    module _ (m : FrameMeasure) (r : Measured) (i : Takes Reader s p (tail room a) r t) (e : r ≡ Gives m) where
+      measured : measuredAt Reader s p ≡ Gives m
+      measured = taking-measured (w .payloads) t m r i e
+
+      pub taking-low : a + m .«payload_len» ≤ m .end
+      taking-low = lays-low s start aim row p a n k (w .records) m h measured
+
+      pub taking-there : m .end ≤ length s
+      taking-there = lays-there s start aim row p a n k (w .records) m h measured
+
+      -- and its record is laid into the row's tail, which comes back as u
+      pub taking-one : (u : List ℕ) → u ≡ laid (tail row n) 0 (recordWords (measuredRecord a m))
+          → Taking s whole start aim (back room a t) (back row n u) (m .end) (a + m .«payload_len») (n + 8) (k - 1)
+      taking-one u j =
+          record {
+            payloads = taking-more (w .payloads) t m r i e;
+            counted = omega (arith, taking-fewer (w .payloads) t m r i e, w .counted);
+            records = lays-more s start aim row p a n k (w .records) m h measured u j;
+          }
+
 -- ---- the whole row
 
 -- an answer has no more records than the row has places
-pub places-enough : (s : List ℕ) (p : ℕ) (room : List ℕ) (rows : ℕ) (r : FramesRead) (after : List ℕ) → Gathers s p room rows r after → recordsIn r ≤ rows
-places-enough s p room rows r after g = subst (λ (x : FramesRead). recordsIn x ≤ rows) (sym (g .answers)) (of-all (allFrames s p))
+pub places-enough : (s : List ℕ) (p : ℕ) (room : List ℕ) (rows : ℕ) (r : FramesRead) → r ≡ givenAll s p (length room) rows (allFrames s p) → recordsIn r ≤ rows
+places-enough s p room rows r e = subst (λ (x : FramesRead). recordsIn x ≤ rows) (sym e) (of-all (allFrames s p))
   where
     of-all : (a : AllRead) → recordsIn (givenAll s p (length room) rows a) ≤ rows
     of-all (refusedAll r) = omega arith
@@ -129,7 +189,11 @@ filled-is s p size row (frames fs q) e =
     (λ t. ap (λ (r : FramesRead). filled s p row (recordsIn r)) (pick-no _ _ t) ∙ filled-none s p row ∙ sym (pick-no _ _ t))
 
 -- what the row holds once the records of the answer are laid into it
-pub row-filled : (s : List ℕ) (p : ℕ) (room row : List ℕ) (r : FramesRead) (after row-after : List ℕ) (count : ℕ)
-    → Gathers s p room (places row) r after → count ≡ recordsIn r → row-after ≡ filled s p row count → row-after ≡ rowWords s (length room) row (allFrames s p)
-row-filled s p room row r after row-after count g c e =
-    e ∙ ap (filled s p row) (c ∙ ap recordsIn (g .answers)) ∙ filled-is s p (length room) row (allFrames s p) refl
+pub row-filled : (s : List ℕ) (p : ℕ) (room row : List ℕ) (r : FramesRead) (row-after : List ℕ) (count : ℕ)
+    → r ≡ givenAll s p (length room) (places row) (allFrames s p) → recordsIn r ≡ count → row-after ≡ filled s p row count → row-after ≡ rowWords s (length room) row (allFrames s p)
+row-filled s p room row r row-after count g c e =
+    e ∙ ap (filled s p row) (sym c ∙ ap recordsIn g) ∙ filled-is s p (length room) row (allFrames s p) refl
+
+-- the row that a refusal leaves
+pub row-kept : (s : List ℕ) (p : ℕ) (room row : List ℕ) (r : FramesRead) → r ≡ givenAll s p (length room) (places row) (allFrames s p) → recordsIn r ≡ 0 → row ≡ rowWords s (length room) row (allFrames s p)
+row-kept s p room row r g c = row-filled s p room row r row 0 g c (sym (filled-none s p row))

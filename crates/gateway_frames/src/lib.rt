@@ -1,13 +1,8 @@
 // All frames at once for C and Rust: document 01, "Reading", `read_all_frames`. Slices, numbers and words go as in the crate
 // gateway, a reader as its position. The row of records is lent as words, eight a record.
-ghost use mathlib.Core.Path.{_≡_};
-ghost use Prim.Native.Nat.{_*_, _≤_};
-ghost use lib.ListN.{length};
-ghost use Rattle.wire.specs.Bytes.{splice};
-ghost use Rattle.dss_row.specs.Rows.{recordsFrom, startsAt};
 ghost use Rattle.gateway_words.specs.Words.{Answered};
-ghost use Rattle.gateway_row.specs.RowWords.{recordWords, joined};
 ghost use Rattle.gateway_frames.specs.FramesWords.{framesWords, ReadsAllFrames};
+ghost use Rattle.gateway_frames.specs.LaidRecords.{Asks, Taken};
 use dss_frame::DssFrame;
 use dss_frame::Rules;
 use dss_measure::Measured;
@@ -16,17 +11,18 @@ use gateway_row::put_frame;
 use gateway_words::put_refusal;
 use gateway_words::put_words;
 
-// The records of so many frames from a place on, eight words each, with their payloads end to end.
-pub(crate) fn lay_records(run: &[u8], from: usize, count: usize, row: &mut [u64])
-    requires { ⌜ 8 * count ≤ length (now row) ⌝ }
-    ensures { λ _. ⌜ now (row .exit) ≡ splice (now (row .entry)) 0 (joined recordWords (recordsFrom count (now (run .entry)) (startsAt «from» count))) ⌝ }
+// So many frames from a place on, which are all that there are: their payloads end to end in the room, their records in the
+// row, eight words each. Each frame is looked at once for both.
+pub(crate) fn take_frames(run: &[u8], from: usize, count: usize, room: &mut [u8], row: &mut [u64])
+    requires { ⌜ Asks (now run) «from» count (now room) (now row) ⌝ }
+    ensures { λ _. ⌜ Taken (now (run .entry)) «from» count (now (room .entry)) (now (row .entry)) (now (room .exit)) (now (row .exit)) ⌝ }
 {
     let mut at = from;
     let mut payload_at = 0;
     let mut filled = 0;
     let mut left = count;
     while 0 < left {
-        match dss_measure::measure(Rules::Reader, run, at) {
+        match dss_take::take(Rules::Reader, run, at, &mut room[payload_at..]) {
             Measured::Refused(_) => {
                 return;
             }
@@ -78,8 +74,16 @@ pub extern "C" fn lattrugone_read_all_frames(
 ) -> u8
     ensures { λ r. ⌜ ReadsAllFrames (now (run .entry)) at (now (room .entry)) (now (row .entry)) (now (words .entry)) r (now (room .exit)) (now (row .exit)) (now (words .exit)) ⌝ }
 {
-    let read = dss_reader::read_all(run, at, room, row.len() / 8);
-    let count = dss_reader::records_of(read);
-    lay_records(run, at, count, row);
-    put_frames(words, read)
+    let read = dss_reader::measure_frames(run, at, room.len(), row.len() / 8);
+    match read {
+        FramesRead::Frames {
+            count,
+            bytes: _,
+            reader: _,
+        } => {
+            take_frames(run, at, count, room, row);
+            put_frames(words, read)
+        }
+        FramesRead::Refused(_, _) => put_frames(words, read),
+    }
 }

@@ -8,7 +8,6 @@ use lib.Seq.{length-take-le}
 use Rattle.wire.specs.Bytes.{splice}
 use Rattle.wire.specs.Splice.{splice-length}
 use Rattle.ddm_length.specs.Markers.{unmarked}
-use Rattle.ddm_length.specs.Lent.{lent-laid}
 use Rattle.ddm_length.specs.Pieces.{Keeping, keeping-start, keeping-step, keeping-end, laid-more, first-length, first-holds, all-laid}
 use borrow.Author.Needs.{needs}
 use Rattle.ddm_length.proofs.lay_kept.Statement.{statement}
@@ -50,26 +49,17 @@ loop-holds c =
 piece-at-requires : tie.Need-piece-at-requires Inv-loop μ-loop
 piece-at-requires c κs = c .loop-test .taken
 
-sub-lay : tie.Need-sub-lay Inv-loop μ-loop
-sub-lay c = omega (arith, c .piece-at .ensures)
+sub-lay-at : tie.Need-sub-lay-at Inv-loop μ-loop
+sub-lay-at c = omega (arith, c .piece-at .ensures)
 
-part-lay-start : tie.Need-part-lay-start Inv-loop μ-loop
-part-lay-start c = omega (arith, c .piece-at .ensures)
+part-lay-at-start : tie.Need-part-lay-at-start Inv-loop μ-loop
+part-lay-at-start c = omega (arith, c .piece-at .ensures)
 
-part-lay-end : tie.Need-part-lay-end Inv-loop μ-loop
-part-lay-end c = omega (arith, c .piece-at .ensures)
+part-lay-at-end : tie.Need-part-lay-at-end Inv-loop μ-loop
+part-lay-at-end c = omega (arith, c .piece-at .ensures)
 
-sub-lay-2 : tie.Need-sub-lay-2 Inv-loop μ-loop
-sub-lay-2 c = omega (arith, roomy (c .before .before .before))
-
-part-lay-start-2 : tie.Need-part-lay-start-2 Inv-loop μ-loop
-part-lay-start-2 c = omega (arith, roomy (c .before .before .before))
-
-part-lay-end-2 : tie.Need-part-lay-end-2 Inv-loop μ-loop
-part-lay-end-2 c = search needs
-
-lay-requires-2 : tie.Need-lay-requires-2 Inv-loop μ-loop
-lay-requires-2 c κs = tt
+lay-at-requires : tie.Need-lay-at-requires Inv-loop μ-loop
+lay-at-requires c κs = tt
 
 sub-fill : tie.Need-sub-fill Inv-loop μ-loop
 sub-fill c = omega (arith, c .before .before .before .before .before .piece-at .ensures)
@@ -84,7 +74,7 @@ loop-less c = omega (arith, c .before .before .before .before .before .piece-at 
 loop-again : tie.Need-loop-again Inv-loop μ-loop
 loop-again c = (
   keeping-step _ _ _ _ (c .before .before .before .before .before .before .before .loop .inv .0) (c .before .before .before .before .before .piece-at .ensures),
-  lent-laid _ _ _ _ (omega (arith, roomy (c .before .before .before .before .before .before .before))) (c .before .before .lay2 .ensures)
+  c .before .before .lay-at .ensures
       ∙ laid-more _ _ _ _ (c .before .before .before .before .before .before .before .loop .inv .0) (c .before .before .before .before .before .piece-at .ensures) _ _ (roomy (c .before .before .before .before .before .before .before) .2) (c .before .before .before .before .before .before .before .loop .inv .1),
 )
 
@@ -107,13 +97,10 @@ lay-kept-spec =
     lay-requires
     loop-holds
     piece-at-requires
-    sub-lay
-    part-lay-start
-    part-lay-end
-    sub-lay-2
-    part-lay-start-2
-    part-lay-end-2
-    lay-requires-2
+    sub-lay-at
+    part-lay-at-start
+    part-lay-at-end
+    lay-at-requires
     sub-fill
     add-fill
     loop-less

@@ -1,76 +1,51 @@
--- `dss_reader::read_all` meets its contract: a refusal, 9 and the frames by their laws, from what measuring counted.
-use mathlib.Core.Path.{sym, _∙_}
-use Rattle.dss_reader.specs.Measuring.{Counted, all-counted, all-not}
-use Rattle.dss_reader.specs.Gathered.{gathers-refused, wide-bytes, wide-records, gathers-none, takes-asks, gathers-frames}
+-- `dss_reader::read_all` meets its contract: what was answered says whether the payloads are laid down.
+use mathlib.Core.Path.{_≡_}
+use lib.ListN.{length}
+use Rattle.dss_reader.specs.Gathered.{Fitted, fitted, takes-asks, room-kept, room-taken}
 use borrow.Author.Needs.{needs}
 use Rattle.dss_reader.proofs.read_all.Statement.{statement}
 use Rattle.dss_reader.proofs.read_all.Tie as tie
 
-measure-all-requires : tie.Need-measure-all-requires
-measure-all-requires c κs = search needs
+measure-frames-requires : tie.Need-measure-frames-requires
+measure-frames-requires c κs = search needs
 
-enum-known-refused : tie.Need-enum-known-refused
-enum-known-refused c = search needs
+enum-told : tie.Need-enum-told
+enum-told c = search needs
 
-enum-known-count : tie.Need-enum-known-count
-enum-known-count c = search needs
+enum-told-2 : tie.Need-enum-told-2
+enum-told-2 c = search needs
 
--- what was counted
-told : (c : tie.After-count)
+-- the frames, which fit
+told : (c : tie.After-enum-told2)
     → (let a = c .before .before .before .before .before .args in
-    let g = c .count .given .0 in Counted (a .run .now) (a .at) (g .0) (g .1 .0) (g .1 .1 .0))
-told c = all-counted _ _ _ _ _ (sym (c .before .before .measure-all .ensures) ∙ c .count .given .1)
+    Fitted (a .run .now) (a .at) (length (a .room .now)) (a .rows) (c .enum-told2 .given .0 .0))
+told c = fitted _ _ _ _ _ _ _ _ (c .before .before .measure-frames .ensures) (c .enum-told2 .given .1)
 
-no-room-requires : tie.Need-no-room-requires
-no-room-requires c κs = search needs
+take-all-requires : tie.Need-take-all-requires
+take-all-requires c κs = takes-asks _ _ _ _ (told (c .before))
 
 returns : tie.Need-returns
 returns c =
-    let n = c .before .before .before in
-    let a = n .before .before .before .before .before .args in
-    gathers-none (a .room .now) (a .rows) (told n) _ (wide-bytes (a .room .now) (a .rows) (told n) (c .before .if1 .taken)) (c .no-room .ensures)
-
-no-room-requires-2 : tie.Need-no-room-requires-2
-no-room-requires-2 c κs = search needs
-
-returns-2 : tie.Need-returns-2
-returns-2 c =
-    let n = c .before .before .before .before in
-    let a = n .before .before .before .before .before .args in
-    gathers-none (a .room .now) (a .rows) (told n) _ (wide-records (a .room .now) (a .rows) (told n) (c .before .if2 .taken)) (c .no-room2 .ensures)
-
-take-all-requires : tie.Need-take-all-requires
-take-all-requires c κs =
-    let n = c .before .before .before .before in
-    let a = n .before .before .before .before .before .args in
-    takes-asks (a .room .now) (a .rows) (told n) (c .before .before .if1 .left)
-
-returns-3 : tie.Need-returns-3
-returns-3 c = gathers-refused _ _ _ _ _ (all-not _ _ _ (sym (c .before .before .before .measure-all .ensures) ∙ c .before .refused .given .1))
+    let m = c .before .before .measure-frames .ensures in
+    record { answers = m; room-is = room-kept _ _ _ _ _ _ _ m (c .enum-told .given .1) }
 
 same-length : tie.Need-same-length
 same-length c = search needs
 
-returns-4 : tie.Need-returns-4
-returns-4 c =
-    let k = c .before .before in
-    let e = k .before .before in
-    let n = e .before .before .before in
-    let a = n .before .before .before .before .before .args in
-    gathers-frames (a .room .now) (a .rows) (told n) (e .before .if1 .left) _ (e .if2 .left) (k .take-all .ensures)
+returns-2 : tie.Need-returns-2
+returns-2 c =
+    let t = c .before .before in
+    let e = t .before .before in
+    record { answers = e .before .before .measure-frames .ensures; room-is = room-taken _ _ _ _ (told e) _ (t .take-all .ensures) }
 
 pub read-all-spec : {M : Type 1} → statement M
 read-all-spec =
     tie.close
     (tie.spec
-    measure-all-requires
-    enum-known-refused
-    enum-known-count
-    no-room-requires
-    returns
-    no-room-requires-2
-    returns-2
+    measure-frames-requires
+    enum-told
+    enum-told-2
     take-all-requires
-    returns-3
+    returns
     same-length
-    returns-4)
+    returns-2)

@@ -19,12 +19,12 @@ use Rattle.dss_take.proofs.copy_absorbed.Statement.{statement}
 use Rattle.dss_take.proofs.copy_absorbed.Tie as tie
 
 abbrev Inv-loop : tie.InvT-loop
-Inv-loop rules run at first room₀ seg-len end₀ fill₀ room end fill =
+Inv-loop rules run at first need room₀ seg-len end₀ fill₀ room end fill =
     Taking rules run at first end fill
     × Laying (payloadAt rules run at) (splice room₀ fill₀ (drop fill₀ (payloadAt rules run at))) room fill
 
 abbrev μ-loop : tie.MeasureT-loop
-μ-loop rules run at first room₀ seg-len end₀ fill₀ room end fill = length run - end
+μ-loop rules run at first need room₀ seg-len end₀ fill₀ room end fill = length run - end
 
 -- ---- the first segment
 
@@ -86,7 +86,7 @@ loop-holds c = (first (c .before .before .before .before) .1, laying-on (first-l
 -- ---- a turn
 
 starts-extended-requires : tie.Need-starts-extended-requires Inv-loop μ-loop
-starts-extended-requires c κs = omega (arith, c .before .loop .inv .1 .few, c .before .loop .inv .1 .fits)
+starts-extended-requires c κs = omega (arith, c .before .before .loop .inv .1 .few, c .before .before .loop .inv .1 .fits)
 
 look-behind-requires : tie.Need-look-behind-requires Inv-loop μ-loop
 look-behind-requires c κs = search needs
@@ -102,21 +102,21 @@ enum-known-dropped c = search needs
 
 module _ (c : tie.After-look-behind Inv-loop μ-loop) where
   abbrev start : tie.Start Inv-loop μ-loop
-  start = c .before .before .before .before .before .before .before .before .before .before .before
+  start = c .before .before .before .before .before .before .before .before .before .before .before .before
 
   -- the room's first bytes are the payload so far
-  extended : c .before .starts-extended .result ≡ startsExtended (take (c .before .before .before .loop .fill) (payload start))
-  extended = c .before .starts-extended .ensures ∙ ap startsExtended (c .before .before .before .loop .inv .1 .holds)
+  extended : c .before .starts-extended .result ≡ startsExtended (take (c .before .before .before .before .loop .fill) (payload start))
+  extended = c .before .starts-extended .ensures ∙ ap startsExtended (c .before .before .before .before .loop .inv .1 .holds)
 
   -- what the look said
   said : (l : Look) → c .look-behind .result ≡ l
-      → lookedOf (look (start .args .rules) (start .args .run .now) (start .args .first) (c .before .starts-extended .result) (c .before .before .before .loop .end)) ≡ l
+      → lookedOf (look (start .args .rules) (start .args .run .now) (start .args .first) (c .before .starts-extended .result) (c .before .before .before .before .loop .end)) ≡ l
   said l e = sym (c .look-behind .ensures) ∙ e
 
 returns : tie.Need-returns Inv-loop μ-loop
 returns c =
     let b = c .before .before in
-    let m = b .before .before .before in
+    let m = b .before .before .before .before in
     laying-all (m .loop .inv .1) (taking-finished (start b .pre .0) (m .loop .inv .0) (extended b) (said b Finished (c .enum-told .given .1)))
     ∙ first-laid (m .before) .gives
 
@@ -129,7 +129,7 @@ same-length c =
 never : tie.After-enum-told2 Inv-loop μ-loop → ⊥
 never c =
     let b = c .before .before in
-    taking-refused (start b .pre .0) (b .before .before .before .loop .inv .0) (extended b) _ (said b _ (c .enum-told2 .given .1))
+    taking-refused (start b .pre .0) (b .before .before .before .before .loop .inv .0) (extended b) _ (said b _ (c .enum-told2 .given .1))
 
 returns-2 : tie.Need-returns-2 Inv-loop μ-loop
 returns-2 c = absurd (never c)
@@ -140,7 +140,7 @@ same-length-2 c = absurd (never c)
 -- the segment that is absorbed
 module _ (c : tie.After-dropped Inv-loop μ-loop) where
   abbrev at-loop : tie.At-loop Inv-loop μ-loop
-  at-loop = c .before .before .before .before .before
+  at-loop = c .before .before .before .before .before .before
 
   abbrev from : ℕ
   from = at-loop .loop .end + 6 + c .dropped .given .0 .0
@@ -191,6 +191,19 @@ loop-less c =
 loop-again : tie.Need-loop-again Inv-loop μ-loop
 loop-again c = (absorbed (c .before .before .before .before .before) .1, absorbed-laid c)
 
+-- ---- all of it is there
+
+returns-3 : tie.Need-returns-3 Inv-loop μ-loop
+returns-3 c =
+    let m = c .before in
+    let s = m .before .before .before .before .before .before .before .before in
+    laying-all (m .loop .inv .1) (omega (arith, m .loop .inv .1 .few, s .pre .3)) ∙ first-laid (m .before) .gives
+
+same-length-3 : tie.Need-same-length-3 Inv-loop μ-loop
+same-length-3 c =
+    let s = c .before .before .before .before .before .before .before .before .before in
+    ap length (returns-3 c) ∙ splice-length (s .args .room .now) 0 (payload s) (omega (arith, fits s))
+
 pub copy-absorbed-spec : {M : Type 1} → statement M
 copy-absorbed-spec =
     tie.close
@@ -219,4 +232,6 @@ copy-absorbed-spec =
     sub-fill-2
     add-fill
     loop-less
-    loop-again)
+    loop-again
+    same-length-3
+    returns-3)

@@ -4,7 +4,7 @@ use mathlib.Core.Path.{_≡_, sym, _∙_}
 use borrow.Author.Needs.{needs}
 use Rattle.dss_measure.specs.declared.Measured.{Measured}
 use Rattle.dss_measure.specs.Measure.{measuredAt}
-use Rattle.dss_take.specs.Answers.{Measures, measures, takes-refusal, takes-typed, takes-none, takes-fits, takes-frame}
+use Rattle.dss_take.specs.Answers.{Measures, measures, takes-refusal, takes-typed, takes-none, takes-fits, takes-size, takes-frame}
 use Rattle.dss_take.proofs.take.Statement.{statement}
 use Rattle.dss_take.proofs.take.Tie as tie
 
@@ -31,7 +31,7 @@ returns c = takes-none (measured (c .before .before)) (c .if1 .taken) (omega ari
 copy-frame-requires : tie.Need-copy-frame-requires
 copy-frame-requires c κs =
     let m = measured (c .before .before .before .before) in
-    (takes-fits m (c .before .before .if1 .left), takes-typed m)
+    (takes-fits m (c .before .before .if1 .left), takes-typed m, takes-size m)
 
 returns-2 : tie.Need-returns-2
 returns-2 c = takes-refusal _ _ _ _ _ (told (c .before .before .before) _ (c .before .refused .given .1))

@@ -1,23 +1,41 @@
--- `gateway_frames::lattrugone_read_all_frames` meets its contract: what was read, the records that are laid, and the words that say so.
+-- `gateway_frames::lattrugone_read_all_frames` meets its contract: what was answered, the frames that are taken, and the words that say so.
 use native.Mathlib.Omega.{arith}
+use mathlib.Core.Path.{ap}
+use lib.ListN.{length}
 use borrow.Author.Needs.{needs}
-use Rattle.gateway_frames.specs.LaidRecords.{places-enough, row-filled}
+use Rattle.dss_reader.specs.Gathered.{Fitted, fitted, takes-asks, asks-counted, recordsIn, room-kept, room-taken}
+use Rattle.gateway_row.specs.RowWords.{places}
+use Rattle.gateway_frames.specs.LaidRecords.{places-enough, row-filled, row-kept}
 use Rattle.gateway_frames.proofs.lattrugone_read_all_frames.Statement.{statement}
 use Rattle.gateway_frames.proofs.lattrugone_read_all_frames.Tie as tie
 
-read-all-requires : tie.Need-read-all-requires
-read-all-requires c κs = search needs
+measure-frames-requires : tie.Need-measure-frames-requires
+measure-frames-requires c κs = search needs
 
-records-of-requires : tie.Need-records-of-requires
-records-of-requires c κs = search needs
+enum-known-read : tie.Need-enum-known-read
+enum-known-read c = search needs
 
-lay-records-requires : tie.Need-lay-records-requires
-lay-records-requires c κs =
-    let read = c .before .before .before .before .read-all .ensures in
-    omega (arith, places-enough _ _ _ _ _ _ read, c .before .records-of .ensures)
+-- the frames, which fit
+told : (c : tie.After-read)
+    → (let a = c .before .before .before .before .before .before .before .args in
+    Fitted (a .run .now) (a .at) (length (a .room .now)) (places (a .row .now)) (c .read .given .0 .0))
+told c = fitted _ _ _ _ _ _ _ _ (c .before .before .measure-frames .ensures) (c .read .given .1)
+
+take-frames-requires : tie.Need-take-frames-requires
+take-frames-requires c κs =
+    let r = c .before .before .before in
+    let a = r .before .before .before .before .before .before .before .args in
+    let n = places-enough (a .run .now) (a .at) (a .room .now) (places (a .row .now)) _ (r .before .before .measure-frames .ensures) in
+    record { payloads = takes-asks _ _ _ _ (told r); counted = asks-counted _ _ _ _ (told r); records = omega (arith, n, ap recordsIn (r .read .given .1)) }
 
 put-frames-requires : tie.Need-put-frames-requires
 put-frames-requires c κs = search needs
+
+enum-told : tie.Need-enum-told
+enum-told c = search needs
+
+put-frames-requires-2 : tie.Need-put-frames-requires-2
+put-frames-requires-2 c κs = search needs
 
 same-length : tie.Need-same-length
 same-length c = search needs
@@ -30,24 +48,43 @@ same-length-3 c = search needs
 
 returns : tie.Need-returns
 returns c =
-    let rows = c .before .before .before .before .before .before in
-    let count = rows .before .before in
-    let read = count .before .before .before .read-all .ensures in
+    let t = c .before .before .before .before .before .before .before .before in
+    let r = t .before .before .before .before in
+    let a = r .before .before .before .before .before .before .before .args in
+    let m = r .before .before .measure-frames .ensures in
     record {
-      answers = rw (← read .answers) (c .before .before .put-frames .ensures);
-      room-is = read .room-is;
-      row-is = row-filled _ _ _ _ _ _ _ _ read (count .records-of .ensures) (rows .lay-records .ensures);
+      answers = rw (← m) (rw (r .read .given .1) (c .before .before .put-frames .ensures));
+      room-is = room-taken _ _ _ _ (told r) _ (t .take-frames .ensures .room-is);
+      row-is = row-filled (a .run .now) (a .at) (a .room .now) (a .row .now) _ _ _ m (ap recordsIn (r .read .given .1)) (t .take-frames .ensures .row-is);
+    }
+
+same-length-4 : tie.Need-same-length-4
+same-length-4 c = search needs
+
+returns-2 : tie.Need-returns-2
+returns-2 c =
+    let e = c .before .before .before .before in
+    let a = e .before .before .before .before .before .before .before .args in
+    let m = e .before .before .measure-frames .ensures in
+    record {
+      answers = rw (← m) (c .before .before .put-frames2 .ensures);
+      room-is = room-kept _ _ _ _ _ _ _ m (e .enum-told .given .1);
+      row-is = row-kept (a .run .now) (a .at) (a .room .now) (a .row .now) _ m (ap recordsIn (e .enum-told .given .1));
     }
 
 pub lattrugone-read-all-frames-spec : {M : Type 1} → statement M
 lattrugone-read-all-frames-spec =
     tie.close
     (tie.spec
-    read-all-requires
-    records-of-requires
-    lay-records-requires
+    measure-frames-requires
+    enum-known-read
+    take-frames-requires
     put-frames-requires
+    enum-told
+    put-frames-requires-2
     same-length
     same-length-2
     same-length-3
-    returns)
+    returns
+    same-length-4
+    returns-2)

@@ -1,0 +1,134 @@
+-- `gateway_frames::take_frames` meets its contract. The loop's invariant: the room with the payloads that are left laid down behind those
+-- that are, and the row with their records, are those that are to come. The measure is how many are left.
+use Prim.Native.Nat.{ℕ, _+_, _-_, _≤_}
+use native.Mathlib.Omega.{arith}
+use mathlib.Core.Path.{_≡_, sym, _∙_}
+use lib.ListN.{length}
+use borrow.Author.Needs.{needs}
+use Rattle.wire.specs.Bytes.{splice}
+use Rattle.dss_frame.specs.Frames.{allFrames}
+use Rattle.dss_reader.specs.Taking.{allPayloads, taking-inside, taking-length}
+use Rattle.gateway_frames.specs.LaidRecords.{wordsFrom, Taking, taking-starts, taking-ends, taking-stays, taking-low, taking-there, taking-one}
+use Rattle.gateway_frames.proofs.take_frames.Statement.{statement}
+use Rattle.gateway_frames.proofs.take_frames.Tie as tie
+
+abbrev Inv-loop : tie.InvT-loop
+Inv-loop run from count room₀ row₀ at₀ payload-at₀ filled₀ left₀ room row at payload-at filled left =
+    Taking run (splice room₀ 0 (allPayloads run (allFrames run from))) row₀ (splice row₀ 0 (wordsFrom run from 0 count)) room row at payload-at filled left
+
+abbrev μ-loop : tie.MeasureT-loop
+μ-loop run from count room₀ row₀ at₀ payload-at₀ filled₀ left₀ room row at payload-at filled left = left
+
+loop-holds : tie.Need-loop-holds Inv-loop μ-loop
+loop-holds c = taking-starts _ _ _ _ _ (c .before .before .before .pre)
+
+sub-take : tie.Need-sub-take Inv-loop μ-loop
+sub-take c = taking-inside (c .before .loop .inv .payloads)
+
+part-take-start : tie.Need-part-take-start Inv-loop μ-loop
+part-take-start c = taking-inside (c .before .loop .inv .payloads)
+
+part-take-end : tie.Need-part-take-end Inv-loop μ-loop
+part-take-end c = search needs
+
+take-requires : tie.Need-take-requires Inv-loop μ-loop
+take-requires c κs = search needs
+
+enum-told : tie.Need-enum-told Inv-loop μ-loop
+enum-told c = search needs
+
+-- one is left, so that one is taken
+never : tie.After-enum-told Inv-loop μ-loop → ⊥
+never c =
+    let k = c .before .before .before .before in
+    taking-stays (k .before .before .before .loop .inv) (k .before .before .loop-test .taken) _ _ _ (k .take .ensures) (c .enum-told .given .1)
+
+same-length : tie.Need-same-length Inv-loop μ-loop
+same-length c = absurd (never c)
+
+same-length-2 : tie.Need-same-length-2 Inv-loop μ-loop
+same-length-2 c = absurd (never c)
+
+returns : tie.Need-returns Inv-loop μ-loop
+returns c = absurd (never c)
+
+enum-known-measure : tie.Need-enum-known-measure Inv-loop μ-loop
+enum-known-measure c = search needs
+
+mul-put-frame : tie.Need-mul-put-frame Inv-loop μ-loop
+mul-put-frame c = omega arith
+
+sub-put-frame : tie.Need-sub-put-frame Inv-loop μ-loop
+sub-put-frame c = omega (arith, c .before .before .before .before .before .before .before .before .before .loop .inv .records .fits)
+
+part-put-frame-start : tie.Need-part-put-frame-start Inv-loop μ-loop
+part-put-frame-start c = omega (arith, c .before .before .before .before .before .before .before .before .before .loop .inv .records .fits)
+
+part-put-frame-end : tie.Need-part-put-frame-end Inv-loop μ-loop
+part-put-frame-end c = search needs
+
+put-frame-requires : tie.Need-put-frame-requires Inv-loop μ-loop
+put-frame-requires c κs = search needs
+
+add-payload-at : tie.Need-add-payload-at Inv-loop μ-loop
+add-payload-at c =
+    let k = c .before .before .before .before .before .before .before .before .before .before in
+    let w = k .before .before .before .loop .inv in
+    let h = k .before .before .loop-test .taken in
+    let e = c .before .before .before .before .before .before .measure .given .1 in
+    omega (arith, taking-low w h _ _ _ (k .take .ensures) e, taking-there w h _ _ _ (k .take .ensures) e)
+
+add-filled : tie.Need-add-filled Inv-loop μ-loop
+add-filled c =
+    let l = c .before .before .before .before .before .before .before .before .before .before .before .before .before .loop .inv .records in
+    omega (arith, l .fits, l .laying .long, c .before .before .before .before .before .before .before .before .before .before .before .before .before .before .before .before .before)
+
+sub-left : tie.Need-sub-left Inv-loop μ-loop
+sub-left c = omega arith
+
+loop-less : tie.Need-loop-less Inv-loop μ-loop
+loop-less c = omega arith
+
+loop-again : tie.Need-loop-again Inv-loop μ-loop
+loop-again c =
+    let k = c .before .before .before .before .before .before .before .before .before .before in
+    taking-one (k .before .before .before .loop .inv) (k .before .before .loop-test .taken) _ _ _ (k .take .ensures) (c .before .before .before .before .before .before .measure .given .1) _ (c .before .before .put-frame .ensures)
+
+same-length-3 : tie.Need-same-length-3 Inv-loop μ-loop
+same-length-3 c = sym (taking-length (c .before .loop .inv .payloads)) ∙ taking-length (taking-starts _ _ _ _ _ (c .before .before .before .before .before .pre) .payloads)
+
+same-length-4 : tie.Need-same-length-4 Inv-loop μ-loop
+same-length-4 c = c .before .loop .inv .records .laying .long
+
+returns-2 : tie.Need-returns-2 Inv-loop μ-loop
+returns-2 c = let e = taking-ends (c .before .loop .inv) (omega arith) in record { room-is = e .0; row-is = e .1 }
+
+pub take-frames-spec : {M : Type 1} → statement M
+take-frames-spec =
+    tie.close
+    (tie.spec
+    Inv-loop
+    μ-loop
+    loop-holds
+    sub-take
+    part-take-start
+    part-take-end
+    take-requires
+    enum-told
+    same-length
+    same-length-2
+    returns
+    enum-known-measure
+    mul-put-frame
+    sub-put-frame
+    part-put-frame-start
+    part-put-frame-end
+    put-frame-requires
+    add-payload-at
+    add-filled
+    sub-left
+    loop-less
+    loop-again
+    same-length-3
+    same-length-4
+    returns-2)
