@@ -3,9 +3,9 @@
 use crate::clock::{fastest, timed, Lent};
 use crate::inputs;
 use crate::lines::Line;
-use crate::port;
 use crate::{CALLS, WORDS};
 use db2_proto::ddm::{DdmBuilder, DdmObject};
+use lattrugone::port;
 use std::hint::black_box;
 
 /// Times two calls that take less than a microsecond, each made `CALLS` times a repeat.
@@ -116,7 +116,7 @@ pub fn build(name: &str, repeats: usize) -> Line {
     let mut port_builds = |room: &mut [u8]| {
         let mut fill = 0;
         for (code_point, data) in black_box(&params) {
-            port::builder_add(fill, *code_point, data, &mut content, &mut words);
+            port::builder_add_code_point(fill, *code_point, data, &mut content, &mut words);
             fill = words[2] as usize;
         }
         port::builder_build(inputs::CODE_POINT, fill, &content, room, &mut words);

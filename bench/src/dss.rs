@@ -2,9 +2,9 @@
 
 use crate::clock::{fastest, timed, Lent};
 use crate::lines::{goal, Line};
-use crate::port;
 use crate::WORDS;
 use db2_proto::dss::{DssReader, DssWriter};
+use lattrugone::port;
 use std::hint::black_box;
 
 /// Where the frames of a run end and how long their payloads are, as both sides read them.
@@ -130,7 +130,10 @@ pub fn write(name: &str, repeats: usize, times: usize, payload: &[u8]) -> Line {
     let written = writer.finish();
     let mut room = vec![1; written.len()];
     let mut words = WORDS;
-    assert_eq!(port::write_object(7, 0, payload, &mut room, &mut words), 0);
+    assert_eq!(
+        port::write_object(7, 0, 0, payload, &mut room, &mut words),
+        0
+    );
     assert_eq!(words[3] as usize, written.len());
     assert!(room == written);
     let mut to_rust = Lent::new(payload, 0);
@@ -153,7 +156,7 @@ pub fn write(name: &str, repeats: usize, times: usize, payload: &[u8]) -> Line {
                 let (payload, room) = to_port.turn(repeat);
                 timed(|| {
                     for _ in 0..times {
-                        port::write_object(7, 0, black_box(payload), room, &mut words);
+                        port::write_object(7, 0, 0, black_box(payload), room, &mut words);
                         black_box((&room, &words));
                     }
                 })

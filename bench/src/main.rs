@@ -12,17 +12,17 @@ mod ddm;
 mod dss;
 mod inputs;
 mod lines;
-mod port;
 
 use ddm::{build, find, markers, object, parameters};
 use dss::{next_frame, read_all_frames, write};
+use lattrugone::port::Words;
 use lines::{print_growth, Line, MB};
 
 /// How often a call that takes a microsecond or less is made in one repeat.
 const CALLS: usize = 100;
 
 /// What a call of the port writes its answer into.
-const WORDS: port::Words = [0; 8];
+const WORDS: Words = [0; 8];
 
 /// A line's name, and what times it.
 type Plan = (&'static str, fn(&str, usize) -> Line);

@@ -8,7 +8,6 @@ mod markers;
 mod numbers;
 mod objects;
 mod params;
-pub mod port;
 pub mod record;
 mod rows;
 mod rust;

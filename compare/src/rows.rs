@@ -2,7 +2,7 @@
 //! a room and a row that are just enough, and in turn in ones that are short by a byte, a word or a record, longer, or empty.
 use crate::answers::{answered, done, expected, refused, Answer, Words};
 use crate::lent::Lent;
-use crate::port::rows::RowLoan;
+use crate::port::RowLoan;
 use crate::Tally;
 
 /// What is listed.

@@ -66,7 +66,7 @@ impl Held {
             name,
             at: 0,
             words,
-            make: |_, loan| port::rows::salvage(loan),
+            make: |_, loan| port::salvage(loan),
         };
         self.run.lend_copy(run);
         self.rows.hold(tally, &mut self.run, run, call, listed)

@@ -1,8 +1,7 @@
 //! Real traffic: the captures of the repository, read by the port and held to the lists beside them, which neither the port nor
 //! its definitions made: `next_frame` and the objects of each payload to what the Rust reads (`oracle.txt`), the salvage reading
 //! to the frames by DRDA volume 3's rule alone (`splitter.txt`), but for the frames of `misread.txt`.
-use crate::ddm::port::objects as list_objects;
-use crate::port::rows::{salvage, RowLoan};
+use crate::port::RowLoan;
 use crate::{port, Tally};
 use std::fs;
 use std::path::Path;
@@ -118,7 +117,7 @@ fn objects(payload: &[u8]) -> String {
     let mut work = vec![0; payload.len()];
     let mut row = vec![0; 8 * (payload.len() / 4 + 1)];
     let mut words = [0; 8];
-    if list_objects(payload, &mut work, &mut row, &mut words) != 0 {
+    if port::objects(payload, &mut work, &mut row, &mut words) != 0 {
         return format!("refused {}", words[0]);
     }
     let records = row.chunks(8).take(words[2] as usize);
@@ -166,7 +165,7 @@ fn salvaged(run: &[u8]) -> (Vec<Frame>, u64) {
     let mut room = vec![0; run.len()];
     let mut row = vec![0; 8 * (run.len() / 6 + 1)];
     let mut words = [0; 8];
-    let answer = salvage(RowLoan {
+    let answer = port::salvage(RowLoan {
         run,
         room: &mut room,
         row: &mut row,

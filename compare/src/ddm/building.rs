@@ -1,9 +1,9 @@
 //! One call that builds, in one room: the port's, and the Rust's of the same name.
 use super::case::Held;
-use super::port;
 use super::rust::text::{self, DdmBuilder};
 use crate::answers::{done, refused, Answer};
-use crate::port::{self as shared, Loan};
+use crate::port;
+use crate::port::Loan;
 use crate::Tally;
 use Call::*;
 
@@ -81,14 +81,14 @@ impl Call {
             words,
         };
         match self {
-            AddCodePoint { cp } => shared::builder_add_code_point(fill, cp, loan),
-            AddRaw => shared::builder_add_raw(fill, loan),
-            BuildParam { cp } => shared::build_param(cp, loan),
+            AddCodePoint { cp } => port::builder_add_code_point(fill, cp, loan),
+            AddRaw => port::builder_add_raw(fill, loan),
+            BuildParam { cp } => port::build_param(cp, loan),
             _ => {
                 let BuildObject { cp } = self else {
                     panic!("no such call")
                 };
-                shared::build_ddm_object(cp, loan)
+                port::build_ddm_object(cp, loan)
             }
         }
     }
@@ -165,7 +165,7 @@ pub fn build(
             room,
             words,
         };
-        shared::builder_build(cp, fill, loan)
+        port::builder_build(cp, fill, loan)
     });
     let numbers = [cp as usize, fill, content.len(), room];
     tally.same(

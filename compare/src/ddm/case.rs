@@ -1,10 +1,10 @@
 //! One input through a call of the port: in a room that is just enough, and in turn in a longer one, one that is short by one,
 //! an empty one.
 use super::objects::{self, Found};
-use super::port;
 use super::rust::{marshaled, text};
 use crate::answers::{answered, done, expected, refused, Answer, Words};
 use crate::lent::Lent;
+use crate::port;
 use crate::{shown, Tally};
 
 /// The longest run and the longest room.

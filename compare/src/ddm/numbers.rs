@@ -1,8 +1,8 @@
 //! Numbers read from data, and lengths of what would be built.
 use super::case::Held;
 use super::lengths::any;
-use super::port;
 use super::rust::text;
+use crate::port;
 use crate::{Chance, Tally};
 use db2_proto::ddm::{DdmObject, DdmParam};
 

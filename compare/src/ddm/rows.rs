@@ -2,8 +2,8 @@
 use super::case::{input, Held};
 use super::objects::{self, Item};
 use super::params::{self, Params};
-use super::port;
 use crate::answers::{answered, done, refused, Words};
+use crate::port;
 use crate::{shown, Tally};
 
 impl Held {

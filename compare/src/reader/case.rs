@@ -217,7 +217,7 @@ impl Case<'_> {
             name: "read_all_frames",
             at,
             words: self.words,
-            make: port::rows::read_all_frames,
+            make: port::read_all_frames,
         };
         rows.hold(tally, run, self.run, call, listed);
     }
