@@ -32,6 +32,8 @@ use Rattle.dss_reader.proofs.DssReader.has_complete_frame.Reads as has-
 use Rattle.dss_reader.proofs.DssReader.first_complete_frame_len.Reads as first-complete-frame-len
 use Rattle.dss_reader.proofs.DssReader.next_frame.Reads as next-frame
 use Rattle.dss_reader.proofs.measure_frames.Reads as measure-frames
+use Rattle.dss_reader.proofs.read_all.Reads as read-all
+use Rattle.dss_reader.proofs.records_of.Reads as records-of
 use Rattle.dss_reader.proofs.DssReader.read_all_frames as read-all-frames
 
 pub new-one : (κs : Lfts 0) (r r′ : DssReader) → new.Post κs tt r tt → new.Post κs tt r′ tt → r ≡ r′
@@ -78,6 +80,16 @@ module _ (κs : Lfts 1) (run : RefT (List ℕ)) (at size rows : ℕ) where
 
   pub measure-frames-some : measure-frames.Post κs (run, (at, (size, (rows, tt)))) (givenAll (run .now) at size rows (allFrames (run .now) at)) (run, (at, (size, (rows, tt))))
   measure-frames-some = refl
+
+module _ (κs : Lfts 2) (run room : RefT (List ℕ)) (at rows : ℕ) where
+  pub read-all-one : (r r′ : FramesRead) (l l′ : List ℕ)
+      → read-all.Post κs (run, (at, (room, (rows, tt)))) r (run, (at, (at-last room l, (rows, tt))))
+      → read-all.Post κs (run, (at, (room, (rows, tt)))) r′ (run, (at, (at-last room l′, (rows, tt))))
+      → (r ≡ r′) × (l ≡ l′)
+  read-all-one r r′ l l′ p q = (p .answers ∙ sym (q .answers), p .room-is ∙ sym (q .room-is))
+
+pub records-of-one : (κs : Lfts 0) (read : FramesRead) (r r′ : ℕ) → records-of.Post κs (read, tt) r (read, tt) → records-of.Post κs (read, tt) r′ (read, tt) → r ≡ r′
+records-of-one κs read r r′ p q = p ∙ sym q
 
 module _ (κs : Lfts 2) (d : DssReader) (run room : RefT (List ℕ)) where
   -- the answer holds the position after

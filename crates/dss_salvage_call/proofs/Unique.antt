@@ -19,6 +19,8 @@ use Rattle.dss_salvage.specs.declared.SalvageEntry.{SalvageEntry}
 use Rattle.dss_salvage.specs.declared.Salvaged.{Salvaged}
 use Rattle.dss_salvage.specs.SalvageCall.{salvagedBytes, salvagedRow, entriesFit, given, Salvages}
 use Rattle.dss_salvage_call.proofs.salvage as salvage
+use Rattle.dss_salvage_call.proofs.gather.Reads as gather
+use Rattle.dss_salvage_call.proofs.entries_in.Reads as entries-in
 
 pub salvage-says : {M : Type 1} (𝓤 : URA M) (H : Heap 𝓤) (A : Atoms 𝓤) (mem : Memory → SProp 𝓤) (run : Routine → Fun 𝓤) (κs : Lfts 3) (s room : RefT (List ℕ)) (row : RefT (List SalvageEntry)) (r : Salvaged) (l : List ℕ) (k : List SalvageEntry)
     → salvage.clauses 𝓤 H A mem run κs (s, (room, (row, tt))) .ensures tt r (s, (at-last room l, (at-last row k, tt))) ≡ fact 𝓤 (Salvages (s .now) (room .now) (row .now) r l k)
@@ -33,3 +35,13 @@ module _ (s room : List ℕ) (row : List SalvageEntry) where
       (landed (entriesFit s (salvaged s .entries) (length room) (length row)) room (salvagedBytes s (salvaged s .entries)))
       (landed (entriesFit s (salvaged s .entries) (length room) (length row)) row (salvagedRow s 0 (salvaged s .entries)))
   salvage-some = record { answers = refl; room-is = refl; row-is = refl }
+
+module _ (κs : Lfts 2) (s room : RefT (List ℕ)) (rows : ℕ) where
+  pub gather-one : (r r′ : Salvaged) (l l′ : List ℕ)
+      → gather.Post κs (s, (room, (rows, tt))) r (s, (at-last room l, (rows, tt)))
+      → gather.Post κs (s, (room, (rows, tt))) r′ (s, (at-last room l′, (rows, tt)))
+      → (r ≡ r′) × (l ≡ l′)
+  gather-one r r′ l l′ p q = (p .answers ∙ sym (q .answers), p .room-is ∙ sym (q .room-is))
+
+pub entries-in-one : (κs : Lfts 0) (x : Salvaged) (r r′ : ℕ) → entries-in.Post κs (x, tt) r (x, tt) → entries-in.Post κs (x, tt) r′ (x, tt) → r ≡ r′
+entries-in-one κs x r r′ p q = p ∙ sym q
