@@ -8,15 +8,15 @@
 //! the run into lent room, as the port does.
 
 mod clock;
-mod ddm;
-mod dss;
+mod frames;
 mod inputs;
 mod lines;
+mod objects;
 
-use ddm::{build, find, markers, object, parameters};
-use dss::{next_frame, read_all_frames, write};
+use frames::{next_frame, read_all_frames, write};
 use lattrugone::port::Words;
 use lines::{print_growth, Line, MB};
+use objects::{build, find, markers, object, parameters};
 
 /// How often a call that takes a microsecond or less is made in one repeat.
 const CALLS: usize = 100;

@@ -54,8 +54,8 @@ fn format_of(fields: &[&str]) -> u64 {
     bit(0) + 0x40 * bit(1) + 0x20 * bit(2) + 0x10 * bit(3)
 }
 
-/// A line of what the Rust reads; it has no segment count.
-fn of_oracle(line: &[&str]) -> Frame {
+/// What a line of either of the Rust's lists starts with, and its segments and sum.
+fn of_rust(line: &[&str], segments: u64, sum: &str) -> Frame {
     Frame {
         from: number(line[0]),
         end: number(line[1]),
@@ -63,9 +63,14 @@ fn of_oracle(line: &[&str]) -> Frame {
         correlation: number(line[6]),
         length: number(line[7]),
         payload: number(line[8]),
-        segments: 0,
-        sum: hexadecimal(line[11]),
+        segments,
+        sum: hexadecimal(sum),
     }
+}
+
+/// A line of what the Rust reads; it has no segment count.
+fn of_oracle(line: &[&str]) -> Frame {
+    of_rust(line, 0, line[11])
 }
 
 /// A line of the splitter. A head's length FFFF is 32,767.
@@ -86,16 +91,7 @@ fn of_splitter(line: &[&str]) -> Frame {
 
 /// A line of what the Rust's rules misread, behind the capture's name and its file.
 fn of_misread(line: &[&str]) -> Frame {
-    Frame {
-        from: number(line[0]),
-        end: number(line[1]),
-        format: format_of(&line[2..6]),
-        correlation: number(line[6]),
-        length: number(line[7]),
-        payload: number(line[8]),
-        segments: number(line[9]),
-        sum: hexadecimal(line[10]),
-    }
+    of_rust(line, number(line[9]), line[10])
 }
 
 /// The splitter's frames, with those that are misread as one replaced by that one.
