@@ -1,6 +1,7 @@
 // Measuring a frame: what it is, how long its payload, where it ends. Touches nothing. Document 01, "Reading".
 ghost use mathlib.Core.Path.{_≡_};
 ghost use Prim.Native.Nat.{ℕ, _+_, _-_, _≤_};
+ghost use mathlib.Core.Bool.{true};
 ghost use mathlib.Core.List.{List, [], _∷_, _++_};
 ghost use lib.ListN.{length, getD};
 ghost use Rattle.wire.specs.Bytes.{be16, part, marker};
@@ -9,12 +10,14 @@ ghost use Rattle.dss_head.specs.declared.HeadFound;
 ghost use Rattle.dss_frame.specs.Rules.{chunkUnder};
 ghost use Rattle.dss_frame.specs.Segments.{first, continuations};
 ghost use Rattle.dss_frame.specs.Reading.{follows, ownObject, droppedAt, refusal, lookAt, look, withChained, absorb};
+ghost use Rattle.dss_measure.specs.Looks.{Apart};
 ghost use Rattle.dss_measure.specs.Measure.{measuredAt, walkedOf, walkedAt, adds, lookedOf, sofarOf, extendedBy, measuredOf};
 use answer::Refusal;
 use answer::Refused;
 use dss_frame::Rules;
 use dss_head::Chunk;
 use dss_head::DSS_HEADER_LEN;
+use dss_head::DSS_MAGIC;
 use dss_head::DssHeader;
 use dss_head::DssType;
 use dss_head::HeadFound;
@@ -410,7 +413,7 @@ pub(crate) fn with_chained(mut header: DssHeader, chained: bool) -> DssHeader
     header
 }
 
-// The frame of one segment of so many bytes at a place, and all that it absorbs.
+// The frame of one segment of so many bytes at a place, and all that it absorbs, look by look.
 pub(crate) fn absorb(
     rules: Rules,
     run: &[u8],
@@ -454,6 +457,51 @@ pub(crate) fn absorb(
     }
 }
 
+// Whether nothing that stands at a place can belong to a frame before it, told at a glance: fewer than six bytes are left, or a
+// head has same correlation clear. Most frames end so, and a look costs more.
+pub(crate) fn stands_apart(run: &[u8], at: usize) -> bool
+    ensures { λ r. ⌜ (r ≡ true → Apart (now (run .entry)) at) ⌝ }
+{
+    if left(run, at) < DSS_HEADER_LEN {
+        return true;
+    }
+    if run[at + 2] != DSS_MAGIC {
+        return false;
+    }
+    let format = run[at + 3];
+    if format / 0x10 % 2 == 1 {
+        return false;
+    }
+    let low = format % 16;
+    if low == 0 {
+        return false;
+    }
+    low <= 4
+}
+
+// The frame of one segment of so many bytes at a place, and all that it absorbs.
+pub(crate) fn single(
+    rules: Rules,
+    run: &[u8],
+    at: usize,
+    head: DssHeader,
+    seg_len: usize,
+) -> Measured
+    requires { ⌜ (6 ≤ «seg_len») × (at + «seg_len» ≤ length (now run)) ⌝ }
+    ensures { λ r. ⌜ r ≡ measuredOf (now (run .entry)) at (absorb rules (now (run .entry)) at head (first at «seg_len» ∷ [])) ⌝ }
+{
+    let end = at + seg_len;
+    if stands_apart(run, end) {
+        return Measured::Frame(FrameMeasure {
+            header: head,
+            payload_len: seg_len - DSS_HEADER_LEN,
+            segments: 1,
+            end,
+        });
+    }
+    absorb(rules, run, at, head, seg_len)
+}
+
 // What a frame that is whole comes to: its head's refusals, then its own segments or all that it absorbs.
 pub(crate) fn measure_whole(
     rules: Rules,
@@ -485,7 +533,7 @@ pub(crate) fn measure_whole(
                     end,
                 });
             }
-            return absorb(rules, run, at, header, seg_len);
+            return single(rules, run, at, header, seg_len);
         }
     }
 }

@@ -60,8 +60,8 @@ returns-3 c =
     (measured-several (a .rules) (a .run .now) (a .at) (a .end) (a .segments) (a .payload-len) (start .pre) _ (found u) (u .u16-at .result) (u .u16-at .ensures)
     (c .if2 .taken))
 
-absorb-requires : tie.Need-absorb-requires
-absorb-requires c κs =
+single-requires : tie.Need-single-requires
+single-requires c κs =
     let u = c .before .before in
     let start = u .before .before .before .before .before .before in
     let a = start .args in
@@ -76,7 +76,7 @@ returns-4 c =
     let start = u .before .before .before .before .before .before in
     let a = start .args in
     _∙_ {b = measuredOf (a .run .now) (a .at) (absorb (a .rules) (a .run .now) (a .at) (u .before .before .header .given .0 .0) (first (a .at) (u .u16-at .result) ∷ []))}
-    (c .absorb .ensures)
+    (c .single .ensures)
     (sym
     (measured-single (a .rules) (a .run .now) (a .at) (a .end) (a .segments) (a .payload-len) (start .pre) _ (found u) (u .u16-at .result) (u .u16-at .ensures)
     (c .before .if2 .left) (c .before .before .if1 .left)))
@@ -93,5 +93,5 @@ measure-whole-spec =
     cast-seg-len
     returns-2
     returns-3
-    absorb-requires
+    single-requires
     returns-4)
