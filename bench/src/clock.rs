@@ -20,27 +20,59 @@ fn touch(bytes: &[u8]) {
     black_box(sum);
 }
 
-/// Input and room that are lent. Where they lie decides some of the time: which lines of the cache they share, and whether a
-/// load follows a store whose address ends in the same twelve bits, for which it waits. What the Rust allocates lies elsewhere
-/// in each repeat; so these are several, which take turns. From 1 MB on they are one, since several would push each other out
-/// of the cache.
-pub struct Lent(Vec<(Vec<u8>, Vec<u8>)>);
+/// Input and room that are lent. How they lie to each other decides some of the time: a load waits for an earlier store whose
+/// address ends in the same twelve bits. The Rust's room lies elsewhere in each repeat; so these are several, each room at
+/// another distance in such twelve bits, and they take turns. From 1 MB on they are one, since several would push each other
+/// out of the cache.
+pub struct Lent(Vec<Place>);
+
+struct Place {
+    input: Vec<u8>,
+    room: Vec<u8>,
+    /// Where the part of the room that is lent starts.
+    start: usize,
+    len: usize,
+}
+
+const PAGE: usize = 4096;
+
+impl Place {
+    /// A copy of an input, with room for so many bytes at a distance, all written.
+    fn new(input: &[u8], len: usize, distance: usize) -> Self {
+        let input = input.to_vec();
+        let room = vec![1; len + PAGE];
+        let lies = (room.as_ptr() as usize).wrapping_sub(input.as_ptr() as usize) % PAGE;
+        let start = (distance + PAGE - lies) % PAGE;
+        Self {
+            input,
+            room,
+            start,
+            len,
+        }
+    }
+}
 
 impl Lent {
-    /// Copies of an input, each with room for so many bytes, all written.
+    /// Copies of an input, each with room for so many bytes.
     pub fn new(input: &[u8], room: usize) -> Self {
         let places = if input.len() < MB { 8 } else { 1 };
-        let place = |n: usize| (input.to_vec(), vec![1; room + 320 * n]);
-        Self((0..places).map(place).collect())
+        let apart = PAGE / places;
+        let distance = |n: usize| n * apart + apart / 2;
+        Self(
+            (0..places)
+                .map(|n| Place::new(input, room, distance(n)))
+                .collect(),
+        )
     }
 
     /// Those of a repeat, touched.
     pub fn turn(&mut self, repeat: usize) -> (&[u8], &mut [u8]) {
-        let place = repeat % self.0.len();
-        let (input, room) = &mut self.0[place];
-        touch(input);
+        let n = repeat % self.0.len();
+        let place = &mut self.0[n];
+        let room = &mut place.room[place.start..place.start + place.len];
+        touch(&place.input);
         touch(room);
-        (input, room)
+        (&place.input, room)
     }
 }
 

@@ -1,5 +1,6 @@
 -- What measuring answers in cases of document 01: the definitions that the contracts cite aren't empty.
 use Prim.Native.Nat.{ℕ}
+use native.Mathlib.Omega.{arith}
 use mathlib.Core.Path.{_≡_, refl}
 use mathlib.Core.Bool.{Bool, true, false}
 use mathlib.Core.List.{List, [], _∷_, _++_}
@@ -10,7 +11,9 @@ use Rattle.dss_head.specs.declared.DssType.the-variants.{Reply, Object}
 use Rattle.dss_frame.specs.declared.Rules.the-variants.{Reader, Salvage}
 use Rattle.dss_measure.specs.declared.Measured.{Measured}
 use Rattle.dss_measure.specs.declared.Measured.the-variants.{Frame, Refused}
-use Rattle.dss_measure.specs.Measure.{measuredAt}
+use Rattle.dss_measure.specs.declared.Extent.the-variants.{Frame as Spans, Refused as NoExtent}
+use Rattle.dss_measure.specs.Measure.{measuredAt, extentOf}
+use Rattle.dss_measure.specs.Glance.{headed, apart-nothing, apart-clear, Lone}
 
 -- a measure: the head's length, type, chained and same-correlation flags and correlation; payload length, segments, end
 frame : ℕ → DssType → Bool → ℕ → ℕ → ℕ → ℕ → Measured
@@ -75,3 +78,34 @@ cases : (measuredAt Reader p2 7 ≡ refuses (OutOfBounds 7 6) 7)
     × (measuredAt Salvage five 0 ≡ frame 6 Reply false 7 0 1 6)
 unfolding measuredAt frame refuses p2 p8 p9 p10 p11 p12 split three five
 cases = (refl, refl, refl, refl, refl, refl, refl, refl, refl, refl, refl, refl, refl)
+
+-- ---- at a glance
+
+-- a frame alone, and one before another whose same correlation is clear
+alone : Lone p2 0 6
+unfolding p2
+alone =
+    record {
+      headed = headed p2 0 (omega arith) refl (omega arith) (omega arith);
+      raw-is = refl;
+      one = λ e. omega arith;
+      six = omega arith;
+      there = omega arith;
+      apart = apart-nothing p2 6 (omega arith);
+    }
+
+before-another : Lone (p2 ++ p2) 0 6
+unfolding p2
+before-another =
+    record {
+      headed = headed (p2 ++ p2) 0 (omega arith) refl (omega arith) (omega arith);
+      raw-is = refl;
+      one = λ e. omega arith;
+      six = omega arith;
+      there = omega arith;
+      apart = apart-clear (p2 ++ p2) 6 (headed (p2 ++ p2) 6 (omega arith) refl (omega arith) (omega arith)) refl;
+    }
+
+extents : (extentOf (measuredAt Reader p9 0) ≡ Spans 2 14) × (extentOf (measuredAt Reader five 0) ≡ NoExtent (record { why = LengthTooShort 5; place = 6 }))
+unfolding measuredAt p2 p9 five
+extents = (refl, refl)

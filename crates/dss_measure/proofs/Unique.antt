@@ -12,15 +12,17 @@ use Rattle.dss_head.specs.declared.HeadFound.{HeadFound}
 use Rattle.dss_frame.specs.Rules.{chunkUnder}
 use Rattle.dss_frame.specs.declared.Rules.{Rules}
 use Rattle.dss_frame.specs.Reading.{look}
+use Rattle.dss_measure.specs.declared.Extent.{Extent}
 use Rattle.dss_measure.specs.declared.Look.{Look}
 use Rattle.dss_measure.specs.declared.Measured.{Measured}
 use Rattle.dss_measure.specs.declared.Walked.{Walked}
-use Rattle.dss_measure.specs.Measure.{walkedAt, lookedOf, measuredAt}
+use Rattle.dss_measure.specs.Measure.{walkedAt, lookedOf, measuredAt, extentOf}
 use Rattle.dss_measure.proofs.head_at.Reads as head-at
 use Rattle.dss_measure.proofs.chunk_under.Reads as chunk-under
 use Rattle.dss_measure.proofs.walk_frame.Reads as walk-frame
 use Rattle.dss_measure.proofs.look_behind.Reads as look-behind
 use Rattle.dss_measure.proofs.measure.Reads as measure
+use Rattle.dss_measure.proofs.measure_extent.Reads as measure-extent
 
 pub head-at-one : (κs : Lfts 1) (run : RefT (List ℕ)) (at : ℕ) (r r′ : HeadFound)
     → head-at.Post κs (run, (at, tt)) r (run, (at, tt)) → head-at.Post κs (run, (at, tt)) r′ (run, (at, tt)) → r ≡ r′
@@ -46,6 +48,11 @@ pub measure-one : (κs : Lfts 1) (rules : Rules) (run : RefT (List ℕ)) (at : �
     → r ≡ r′
 measure-one κs rules run at r r′ p q = p ∙ sym q
 
+pub measure-extent-one : (κs : Lfts 1) (rules : Rules) (run : RefT (List ℕ)) (at : ℕ) (r r′ : Extent)
+    → measure-extent.Post κs (rules, (run, (at, tt))) r (rules, (run, (at, tt))) → measure-extent.Post κs (rules, (run, (at, tt))) r′ (rules, (run, (at, tt)))
+    → r ≡ r′
+measure-extent-one κs rules run at r r′ p q = p ∙ sym q
+
 -- and one outcome is allowed, whatever the rules, the run and the place
 pub head-at-some : (κs : Lfts 1) (run : RefT (List ℕ)) (at : ℕ) → head-at.Post κs (run, (at, tt)) (headAt (run .now) at) (run, (at, tt))
 head-at-some κs run at = refl
@@ -64,3 +71,7 @@ look-behind-some κs rules run first extended at = refl
 pub measure-some : (κs : Lfts 1) (rules : Rules) (run : RefT (List ℕ)) (at : ℕ)
     → measure.Post κs (rules, (run, (at, tt))) (measuredAt rules (run .now) at) (rules, (run, (at, tt)))
 measure-some κs rules run at = refl
+
+pub measure-extent-some : (κs : Lfts 1) (rules : Rules) (run : RefT (List ℕ)) (at : ℕ)
+    → measure-extent.Post κs (rules, (run, (at, tt))) (extentOf (measuredAt rules (run .now) at)) (rules, (run, (at, tt)))
+measure-extent-some κs rules run at = refl

@@ -26,7 +26,6 @@ use Rattle.dss_measure.specs.declared.Look.the-variants.{Finished, Absor
 use Rattle.dss_measure.specs.declared.Measured.the-variants.{Frame as Gives, Refused as NotMeasured}
 use Rattle.dss_measure.specs.declared.Sofar.{Sofar}
 use Rattle.dss_measure.specs.Measure.{lookedOf, sofarOf, extendedBy, measuredOf}
-use Rattle.dss_measure.specs.Looks.{Apart}
 
 -- ---- what a look absorbs
 
@@ -165,13 +164,3 @@ module _ (rules : Rules) (s : List ℕ) (p : ℕ) (read : Read) (h : DssHeader) 
         ends = sym (end-snoc p (w .segments) (behindAt e d n));
         holds = grows (payloadOf s (w .segments)) (w .holds) ∙ ap sofarOf (sym (payload-snoc s (w .segments) (behindAt e d n)));
       }
-
--- ---- nothing behind it
-
--- one segment behind which nothing can belong to it is the frame
-pub single-apart : (rules : Rules) (s : List ℕ) (p n : ℕ) (h : DssHeader) → p + n ≤ length s → Apart s (p + n)
-    → measuredOf s p (absorb rules s p h (first p n ∷ [])) ≡ Gives (record { header = h; «payload_len» = n - 6; segments = 1; end = p + n })
-single-apart rules s p n h i apart =
-    let v : Sofar = sofarOf (part s (p + 6) (p + n)) in
-    absorbing-finished rules s p _ h 1 (p + n) v (extendedBy v) (absorbing-one rules s p n h v refl) refl (ap lookedOf (apart rules (h .«dss_type») (extendedBy v)))
-    ∙ ap (λ (l : ℕ). Gives (record { header = h; «payload_len» = l; segments = 1; end = p + n })) (part-length s (p + 6) (p + n) i ∙ omega arith)

@@ -4,3 +4,5 @@ pub mod Looks
 pub mod Sofars
 pub mod Absorbing
 pub mod Readings
+pub mod Glance
+pub mod Extents

@@ -1,27 +1,22 @@
 -- The laws of a look at what follows a frame, one for each answer.
-use Prim.Native.Nat.{ℕ, _+_, _-_, _%_, _≤_, _<_}
+use Prim.Native.Nat.{ℕ, _+_, _-_, _≤_, _<_}
 use native.Mathlib.Omega.{arith}
 use mathlib.Core.Path.{_≡_, sym, ap, _∙_}
 use mathlib.Core.Bool.{Bool, true, false}
 use mathlib.Core.List.{List}
 use lib.Dec.{leb, ltb, eqb}
-use lib.ListN.{length, getD}
-use borrow.Author.Tests.{le-ltb, lt-ltb, le-leb, lt-leb, eq-eqb, ne-eqb, eqb-false}
+use lib.ListN.{length}
+use borrow.Author.Tests.{le-ltb, lt-ltb, le-leb, lt-leb, eq-eqb, ne-eqb}
 use Rattle.wire.specs.Bytes.{pick, and, be16, marker}
-use Rattle.wire.specs.Laws.{by, pick-by, pick-yes, pick-no, and-no}
+use Rattle.wire.specs.Laws.{pick-yes, pick-no, and-no}
 use Rattle.answer.specs.declared.Refusal.the-variants.{LengthTooShort}
-use Rattle.dss_head.specs.Heads.{lengthOf, typeAt, bit, flagsOf, headWith, headAt}
-use Rattle.dss_head.specs.HeadLaws.{head-typed}
-use Rattle.dss_head.specs.declared.TypeFound.{TypeFound}
-use Rattle.dss_head.specs.declared.TypeFound.the-variants.{Is}
+use Rattle.dss_head.specs.Heads.{headAt}
 use Rattle.dss_head.specs.declared.DssType.{DssType}
-use Rattle.dss_head.specs.declared.DssType.the-variants.{Request, Reply, Object, Communication}
 use Rattle.dss_head.specs.declared.DssHeader.{DssHeader}
 use Rattle.dss_head.specs.declared.HeadFound.{HeadFound}
 use Rattle.dss_head.specs.declared.HeadFound.the-variants.{Head}
 use Rattle.dss_frame.specs.declared.Rules.{Rules}
 use Rattle.dss_frame.specs.Reading.{finished, absorbs, look, lookAt, refusal, follows, ownObject, droppedAt}
-use Rattle.dss_laws.specs.Looks.{look-nothing}
 
 -- ---- an object of its own
 
@@ -123,42 +118,3 @@ pub look-head : (rules : Rules) (s : List ℕ) (t : DssType) (extended : Bool) (
     → look rules s t extended q ≡ lookAt rules s t extended q f
 unfolding look
 look-head rules s t extended q f h e = pick-no _ _ (le-ltb (length s - q) 6 h) ∙ ap (lookAt rules s t extended q) (sym e)
-
--- ---- nothing that can belong to a frame before it
-
--- whatever frame ends there, a look says that it is finished
-abbrev pub Apart : List ℕ → ℕ → Type 0
-Apart s q = (rules : Rules) (t : DssType) (extended : Bool) → look rules s t extended q ≡ finished
-
-pub apart-nothing : (s : List ℕ) (q : ℕ) → length s - q < 6 → Apart s q
-apart-nothing s q h rules t extended = look-nothing rules s q h t extended
-
--- "Raw 0xFFFF, or same correlation clear: finished"
-looks-clear : (rules : Rules) (s : List ℕ) (t : DssType) (extended : Bool) (q : ℕ) (h : DssHeader) → h .flags .«same_correlation» ≡ false
-    → lookAt rules s t extended q (Head h) ≡ finished
-looks-clear rules s t extended q h c =
-    by (eqb (be16 s q) 65535) (λ e. pick-yes _ _ e) (λ e. pick-no _ _ e ∙ pick-no _ _ c)
-
--- a head with a type and same correlation clear
-pub apart-clear : (s : List ℕ) (q : ℕ) → 6 ≤ length s - q → getD s (q + 2) 0 ≡ 0xD0 → (b : ℕ) → b ≡ getD s (q + 3) 0
-    → bit 0x10 b ≡ false → 1 ≤ b % 16 → b % 16 ≤ 4 → Apart s q
-apart-clear s q h m b e c i j rules t extended =
-    look-head rules s t extended q _ h (sym (head-typed s q h m ∙ ap (λ (x : ℕ). headWith s q (typeAt x q)) (sym e)))
-    ∙ typed (is Request) (is Reply) (is Object) (is Communication)
-  where
-    Clear : TypeFound → Type 0
-    Clear x = lookAt rules s t extended q (headWith s q x) ≡ finished
-
-    is : (y : DssType) → Clear (Is y)
-    is y =
-        looks-clear rules s t extended q
-        (record { length = lengthOf (be16 s q); «dss_type» = y; flags = flagsOf (getD s (q + 3) 0); «correlation_id» = be16 s (q + 4) })
-        (ap (bit 0x10) (sym e) ∙ c)
-
-    typed : Clear (Is Request) → Clear (Is Reply) → Clear (Is Object) → Clear (Is Communication) → Clear (typeAt b q)
-    typed x y z w =
-        pick-by Clear (eqb (b % 16) 1) _ _ (λ _. x)
-        (λ k. pick-by Clear (eqb (b % 16) 2) _ _ (λ _. y)
-        (λ l. pick-by Clear (eqb (b % 16) 3) _ _ (λ _. z)
-        (λ m. pick-by Clear (eqb (b % 16) 4) _ _ (λ _. w)
-        (λ n. absurd (omega (arith, eqb-false (b % 16) 1 k, eqb-false (b % 16) 2 l, eqb-false (b % 16) 3 m, eqb-false (b % 16) 4 n))))))

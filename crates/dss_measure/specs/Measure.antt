@@ -11,6 +11,8 @@ use Rattle.dss_frame.specs.declared.Rules.{Rules}
 use Rattle.dss_measure.specs.declared.FrameMeasure.{FrameMeasure}
 use Rattle.dss_measure.specs.declared.Measured.{Measured}
 use Rattle.dss_measure.specs.declared.Measured.the-variants.{Frame as Gives, Refused as NotMeasured}
+use Rattle.dss_measure.specs.declared.Extent.{Extent}
+use Rattle.dss_measure.specs.declared.Extent.the-variants.{Frame as Spans, Refused as NoExtent}
 use Rattle.dss_measure.specs.declared.Look.{Look as Looked}
 use Rattle.dss_measure.specs.declared.Look.the-variants.{Finished, Absorbs, Refuses}
 use Rattle.dss_measure.specs.declared.Sofar.{Sofar}
@@ -68,3 +70,10 @@ measuredOf s p (refused r) = NotMeasured r
 unfoldable pub measuredAt : Rules → List ℕ → ℕ → Measured
 unfolding payloadOf endOf readAt
 measuredAt rules s p = measuredOf s p (readAt rules s p)
+
+-- ---- the frame's extent
+
+-- a measure's payload length and end alone
+abbrev pub extentOf : Measured → Extent
+extentOf (Gives m) = Spans (m .«payload_len») (m .end)
+extentOf (NotMeasured r) = NoExtent r

@@ -1,7 +1,8 @@
 // Measuring a frame: what it is, how long its payload, where it ends. Touches nothing. Document 01, "Reading".
+mod glance; // glance.rt: what can be told of a frame without measuring it
+
 ghost use mathlib.Core.Path.{_≡_};
 ghost use Prim.Native.Nat.{ℕ, _+_, _-_, _≤_};
-ghost use mathlib.Core.Bool.{true};
 ghost use mathlib.Core.List.{List, [], _∷_, _++_};
 ghost use lib.ListN.{length, getD};
 ghost use Rattle.wire.specs.Bytes.{be16, part, marker};
@@ -10,14 +11,12 @@ ghost use Rattle.dss_head.specs.declared.HeadFound;
 ghost use Rattle.dss_frame.specs.Rules.{chunkUnder};
 ghost use Rattle.dss_frame.specs.Segments.{first, continuations};
 ghost use Rattle.dss_frame.specs.Reading.{follows, ownObject, droppedAt, refusal, lookAt, look, withChained, absorb};
-ghost use Rattle.dss_measure.specs.Looks.{Apart};
-ghost use Rattle.dss_measure.specs.Measure.{measuredAt, walkedOf, walkedAt, adds, lookedOf, sofarOf, extendedBy, measuredOf};
+ghost use Rattle.dss_measure.specs.Measure.{measuredAt, walkedOf, walkedAt, adds, lookedOf, sofarOf, extendedBy, measuredOf, extentOf};
 use answer::Refusal;
 use answer::Refused;
 use dss_frame::Rules;
 use dss_head::Chunk;
 use dss_head::DSS_HEADER_LEN;
-use dss_head::DSS_MAGIC;
 use dss_head::DssHeader;
 use dss_head::DssType;
 use dss_head::HeadFound;
@@ -43,6 +42,12 @@ pub struct FrameMeasure {
 // What measuring comes to: every refusal but 9.
 pub enum Measured {
     Frame(FrameMeasure),
+    Refused(Refused),
+}
+
+// A frame's extent alone: its payload's length and the byte after its last.
+pub enum Extent {
+    Frame { payload_len: usize, end: usize },
     Refused(Refused),
 }
 
@@ -457,28 +462,6 @@ pub(crate) fn absorb(
     }
 }
 
-// Whether nothing that stands at a place can belong to a frame before it, told at a glance: fewer than six bytes are left, or a
-// head has same correlation clear. Most frames end so, and a look costs more.
-pub(crate) fn stands_apart(run: &[u8], at: usize) -> bool
-    ensures { λ r. ⌜ (r ≡ true → Apart (now (run .entry)) at) ⌝ }
-{
-    if left(run, at) < DSS_HEADER_LEN {
-        return true;
-    }
-    if run[at + 2] != DSS_MAGIC {
-        return false;
-    }
-    let format = run[at + 3];
-    if format / 0x10 % 2 == 1 {
-        return false;
-    }
-    let low = format % 16;
-    if low == 0 {
-        return false;
-    }
-    low <= 4
-}
-
 // The frame of one segment of so many bytes at a place, and all that it absorbs.
 pub(crate) fn single(
     rules: Rules,
@@ -491,7 +474,7 @@ pub(crate) fn single(
     ensures { λ r. ⌜ r ≡ measuredOf (now (run .entry)) at (absorb rules (now (run .entry)) at head (first at «seg_len» ∷ [])) ⌝ }
 {
     let end = at + seg_len;
-    if stands_apart(run, end) {
+    if glance::stands_apart(run, end) {
         return Measured::Frame(FrameMeasure {
             header: head,
             payload_len: seg_len - DSS_HEADER_LEN,
@@ -565,5 +548,25 @@ pub fn measure(rules: Rules, run: &[u8], at: usize) -> Measured
         } => {
             return measure_whole(rules, run, at, end, segments, payload_len);
         }
+    }
+}
+
+// The extent of the frame at a place of a run, without its head: the same refusals.
+pub fn measure_extent(rules: Rules, run: &[u8], at: usize) -> Extent
+    ensures { λ r. ⌜ r ≡ extentOf (measuredAt rules (now (run .entry)) at) ⌝ }
+{
+    let len = glance::lone_len(run, at);
+    if 0 < len {
+        return Extent::Frame {
+            payload_len: len - DSS_HEADER_LEN,
+            end: at + len,
+        };
+    }
+    match measure(rules, run, at) {
+        Measured::Refused(refused) => Extent::Refused(refused),
+        Measured::Frame(measure) => Extent::Frame {
+            payload_len: measure.payload_len,
+            end: measure.end,
+        },
     }
 }

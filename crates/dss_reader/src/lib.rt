@@ -14,6 +14,7 @@ use answer::Refusal;
 use answer::Refused;
 use dss_frame::DssFrame;
 use dss_frame::Rules;
+use dss_measure::Extent;
 use dss_measure::Measured;
 use dss_measure::Walked;
 
@@ -90,8 +91,8 @@ pub(crate) fn measure_all(run: &[u8], from: usize) -> AllMeasured
     let mut count = 0;
     let mut bytes = 0;
     loop {
-        match dss_measure::measure(Rules::Reader, run, at) {
-            Measured::Refused(refused) => {
+        match dss_measure::measure_extent(Rules::Reader, run, at) {
+            Extent::Refused(refused) => {
                 let why = refused.why;
                 if why.number() == 1 {
                     return AllMeasured::Frames {
@@ -102,10 +103,10 @@ pub(crate) fn measure_all(run: &[u8], from: usize) -> AllMeasured
                 }
                 return AllMeasured::Refused(refused);
             }
-            Measured::Frame(measure) => {
+            Extent::Frame { payload_len, end } => {
                 count += 1;
-                bytes += measure.payload_len;
-                at = measure.end;
+                bytes += payload_len;
+                at = end;
             }
         }
     }

@@ -1,7 +1,7 @@
 -- `dss_measure::single` meets its contract: nothing behind it can belong to it, or the looks decide.
 use mathlib.Core.Path.{sym}
 use borrow.Author.Needs.{needs}
-use Rattle.dss_measure.specs.Absorbing.{single-apart}
+use Rattle.dss_measure.specs.Glance.{single-apart}
 use Rattle.dss_measure.proofs.single.Statement.{statement}
 use Rattle.dss_measure.proofs.single.Tie as tie
 

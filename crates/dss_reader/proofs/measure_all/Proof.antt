@@ -1,12 +1,14 @@
 -- `dss_reader::measure_all` meets its contract. The loop's invariant: the frames from the first place come to those from the present
 -- one, behind the frames and the payload so far. The measure is what is left of the run.
-use Prim.Native.Nat.{_-_, _≤_}
+use Prim.Native.Nat.{ℕ, _+_, _-_, _≤_}
 use native.Mathlib.Omega.{arith}
-use mathlib.Core.Path.{_≡_, sym, _∙_}
+use mathlib.Core.Path.{_≡_, sym, ap₂, _∙_}
 use lib.ListN.{length}
 use borrow.Author.Needs.{needs}
 use Rattle.dss_frame.specs.declared.Rules.the-variants.{Reader}
 use Rattle.dss_frame.specs.Reading.{refused, readAt}
+use Rattle.dss_measure.specs.Measure.{measuredAt}
+use Rattle.dss_measure.specs.Extents.{Spanned, spanned, not-spanned}
 use Rattle.dss_row.specs.Measures.{Measures, measures, measured-not}
 use Rattle.dss_reader.specs.Measuring.{measuredAll, addsAll, adds-none, all-frame, all-end, all-refused}
 use Rattle.dss_reader.proofs.measure_all.Statement.{statement}
@@ -21,8 +23,8 @@ abbrev μ-loop : tie.MeasureT-loop
 loop-holds : tie.Need-loop-holds Inv-loop μ-loop
 loop-holds c = (omega arith, omega arith, adds-none _)
 
-measure-requires : tie.Need-measure-requires Inv-loop μ-loop
-measure-requires c κs = search needs
+measure-extent-requires : tie.Need-measure-extent-requires Inv-loop μ-loop
+measure-extent-requires c κs = search needs
 
 enum-known-refused : tie.Need-enum-known-refused Inv-loop μ-loop
 enum-known-refused c = search needs
@@ -34,7 +36,7 @@ number-requires c κs = search needs
 not-read : (c : tie.After-known-told Inv-loop μ-loop)
     → (let m = c .before .before .before .before in
     readAt Reader (m .before .before .args .run .now) (m .loop .at) ≡ refused (c .before .refused .given .0 .0))
-not-read c = measured-not Reader _ _ _ (sym (c .before .before .before .measure .ensures) ∙ c .before .refused .given .1)
+not-read c = measured-not Reader _ _ _ (not-spanned _ _ (sym (c .before .before .before .measure-extent .ensures) ∙ c .before .refused .given .1))
 
 returns : tie.Need-returns Inv-loop μ-loop
 returns c =
@@ -46,28 +48,41 @@ returns-2 c =
     let n = c .before .before in
     sym (n .before .before .before .before .loop .inv .2 ∙ all-refused _ _ _ _ _ (not-read n) (λ e. c .if1 .left (c .before .number .ensures ∙ e)))
 
-enum-known-measure : tie.Need-enum-known-measure Inv-loop μ-loop
-enum-known-measure c = search needs
+enum-known-payload-len : tie.Need-enum-known-payload-len Inv-loop μ-loop
+enum-known-payload-len c = search needs
 
--- what the measure is of
-measured : (c : tie.After-known-told2 Inv-loop μ-loop)
-    → (let m = c .before .before .before .before in
-    Measures Reader (m .before .before .args .run .now) (m .loop .at) (c .before .measure2 .given .0 .0))
-measured c = measures Reader _ _ _ (sym (c .before .before .before .measure .ensures) ∙ c .before .measure2 .given .1)
+-- what the extent is of
+extends : (c : tie.After-payload-len Inv-loop μ-loop)
+    → (let m = c .before .before .before in
+    Spanned (c .payload-len .given .0 .0) (c .payload-len .given .0 .1 .0) (measuredAt Reader (m .before .before .args .run .now) (m .loop .at)))
+extends c = spanned _ _ _ (sym (c .before .before .measure-extent .ensures) ∙ c .payload-len .given .1)
+
+measured : (c : tie.After-payload-len Inv-loop μ-loop)
+    → (let m = c .before .before .before in
+    Measures Reader (m .before .before .args .run .now) (m .loop .at) (extends c .measure))
+measured c = measures Reader _ _ _ (extends c .is)
 
 add-count : tie.Need-add-count Inv-loop μ-loop
-add-count c = omega (arith, measured c)
+add-count c = omega (arith, measured (c .before), extends (c .before))
 
 add-bytes : tie.Need-add-bytes Inv-loop μ-loop
-add-bytes c = omega (arith, measured (c .before))
+add-bytes c = omega (arith, measured (c .before), extends (c .before))
 
 loop-less : tie.Need-loop-less Inv-loop μ-loop
-loop-less c = omega (arith, measured (c .before))
+loop-less c = omega (arith, measured (c .before), extends (c .before))
 
 loop-again : tie.Need-loop-again Inv-loop μ-loop
 loop-again c =
+    let x = extends (c .before) in
     let w = measured (c .before) in
-    (omega arith, omega arith, c .before .before .before .before .before .loop .inv .2 ∙ all-frame _ _ _ _ _ w)
+    let m = c .before .before .before .before in
+    let s = m .before .before .args .run .now in (
+      omega arith,
+      omega arith,
+      m .loop .inv .2
+          ∙ all-frame _ _ _ _ _ w
+          ∙ ap₂ (λ (n e : ℕ). addsAll (m .loop .count + 1) (m .loop .bytes + n) (measuredAll s e)) (sym (x .long)) (sym (x .ends)),
+    )
 
 pub measure-all-spec : {M : Type 1} → statement M
 measure-all-spec =
@@ -76,12 +91,12 @@ measure-all-spec =
     Inv-loop
     μ-loop
     loop-holds
-    measure-requires
+    measure-extent-requires
     enum-known-refused
     number-requires
     returns
     returns-2
-    enum-known-measure
+    enum-known-payload-len
     add-count
     add-bytes
     loop-less

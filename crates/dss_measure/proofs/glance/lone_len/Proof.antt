@@ -1,0 +1,69 @@
+-- `dss_measure::glance::lone_len` meets its contract: the tests one after the other.
+use native.Mathlib.Omega.{arith}
+use borrow.Author.Needs.{needs}
+use borrow.Author.Tests.{not-false}
+use Rattle.dss_measure.proofs.glance.lone_len.Statement.{statement}
+use Rattle.dss_measure.proofs.glance.lone_len.Tie as tie
+
+has-head-requires : tie.Need-has-head-requires
+has-head-requires c κs = search needs
+
+returns : tie.Need-returns
+returns c i = absurd (omega arith)
+
+u16-at-requires : tie.Need-u16-at-requires
+u16-at-requires c κs = search needs
+
+returns-2 : tie.Need-returns-2
+returns-2 c i = absurd (omega arith)
+
+cast-len : tie.Need-cast-len
+cast-len c = search needs
+
+returns-3 : tie.Need-returns-3
+returns-3 c i = absurd (omega arith)
+
+left-requires : tie.Need-left-requires
+left-requires c κs = search needs
+
+returns-4 : tie.Need-returns-4
+returns-4 c i = absurd (omega arith)
+
+add-stands-apart : tie.Need-add-stands-apart
+add-stands-apart c = search needs
+
+stands-apart-requires : tie.Need-stands-apart-requires
+stands-apart-requires c κs = search needs
+
+returns-5 : tie.Need-returns-5
+returns-5 c i = absurd (omega arith)
+
+returns-6 : tie.Need-returns-6
+returns-6 c i =
+    let l = c .before .before .before in
+    let u = l .before .before .before in
+    record {
+      headed = u .before .before .has-head .ensures (not-false _ (u .before .if1 .left));
+      raw-is = u .u16-at .ensures;
+      one = l .before .before .if2 .left;
+      six = omega arith;
+      there = omega arith;
+      apart = c .before .stands-apart .ensures (not-false _ (c .if5 .left));
+    }
+
+pub lone-len-spec : {M : Type 1} → statement M
+lone-len-spec =
+    tie.close
+    (tie.spec
+    has-head-requires
+    returns
+    u16-at-requires
+    returns-2
+    cast-len
+    returns-3
+    left-requires
+    returns-4
+    add-stands-apart
+    stands-apart-requires
+    returns-5
+    returns-6)
