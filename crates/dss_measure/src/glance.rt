@@ -4,6 +4,7 @@ ghost use mathlib.Core.Path.{_≡_};
 ghost use mathlib.Core.Bool.{true};
 ghost use Prim.Native.Nat.{_<_};
 ghost use Rattle.dss_measure.specs.Glance.{Headed, Apart, Lone};
+use super::left;
 use dss_head::DSS_HEADER_LEN;
 use dss_head::DSS_MAGIC;
 
@@ -11,7 +12,7 @@ use dss_head::DSS_MAGIC;
 pub(crate) fn has_head(run: &[u8], at: usize) -> bool
     ensures { λ r. ⌜ (r ≡ true → Headed (now (run .entry)) at) ⌝ }
 {
-    if crate::left(run, at) < DSS_HEADER_LEN {
+    if left(run, at) < DSS_HEADER_LEN {
         return false;
     }
     if run[at + 2] != DSS_MAGIC {
@@ -29,7 +30,7 @@ pub(crate) fn has_head(run: &[u8], at: usize) -> bool
 pub(crate) fn stands_apart(run: &[u8], at: usize) -> bool
     ensures { λ r. ⌜ (r ≡ true → Apart (now (run .entry)) at) ⌝ }
 {
-    if crate::left(run, at) < DSS_HEADER_LEN {
+    if left(run, at) < DSS_HEADER_LEN {
         return true;
     }
     if !has_head(run, at) {
@@ -53,7 +54,7 @@ pub(crate) fn lone_len(run: &[u8], at: usize) -> usize
     if len < DSS_HEADER_LEN {
         return 0;
     }
-    if crate::left(run, at) < len {
+    if left(run, at) < len {
         return 0;
     }
     if !stands_apart(run, at + len) {

@@ -1,17 +1,17 @@
 // Measuring a frame: what it is, how long its payload, where it ends. Touches nothing. Document 01, "Reading".
+mod behind; // behind.rt: what a head behind a frame comes to
 mod glance; // glance.rt: what can be told of a frame without measuring it
+mod payload; // payload.rt: what is kept of the payload so far
 
 ghost use mathlib.Core.Path.{_≡_};
-ghost use Prim.Native.Nat.{ℕ, _+_, _-_, _≤_};
-ghost use mathlib.Core.List.{List, [], _∷_, _++_};
-ghost use lib.ListN.{length, getD};
-ghost use Rattle.wire.specs.Bytes.{be16, part, marker};
+ghost use Prim.Native.Nat.{_+_, _-_, _≤_};
+ghost use mathlib.Core.List.{[], _∷_};
+ghost use lib.ListN.{length};
 ghost use Rattle.dss_head.specs.Heads.{headAt};
-ghost use Rattle.dss_head.specs.declared.HeadFound;
 ghost use Rattle.dss_frame.specs.Rules.{chunkUnder};
 ghost use Rattle.dss_frame.specs.Segments.{first, continuations};
-ghost use Rattle.dss_frame.specs.Reading.{follows, ownObject, droppedAt, refusal, lookAt, look, withChained, absorb};
-ghost use Rattle.dss_measure.specs.Measure.{measuredAt, walkedOf, walkedAt, adds, lookedOf, sofarOf, extendedBy, measuredOf, extentOf};
+ghost use Rattle.dss_frame.specs.Reading.{look, withChained, absorb};
+ghost use Rattle.dss_measure.specs.Measure.{measuredAt, walkedOf, walkedAt, adds, lookedOf, measuredOf, extentOf};
 use answer::Refusal;
 use answer::Refused;
 use dss_frame::Rules;
@@ -202,135 +202,6 @@ pub fn walk_frame(rules: Rules, run: &[u8], at: usize) -> Walked
     }
 }
 
-// Whether a segment of a type may be absorbed by a frame whose first segment has a type.
-pub(crate) fn follows(first: DssType, next: DssType) -> bool
-    ensures { λ r. ⌜ r ≡ follows first next ⌝ }
-{
-    match first {
-        DssType::Request => match next {
-            DssType::Request => true,
-            DssType::Reply => false,
-            DssType::Object => true,
-            DssType::Communication => false,
-        },
-        DssType::Reply => match next {
-            DssType::Request => false,
-            DssType::Reply => true,
-            DssType::Object => true,
-            DssType::Communication => false,
-        },
-        DssType::Object => match next {
-            DssType::Request => false,
-            DssType::Reply => false,
-            DssType::Object => true,
-            DssType::Communication => false,
-        },
-        DssType::Communication => match next {
-            DssType::Request => false,
-            DssType::Reply => false,
-            DssType::Object => false,
-            DssType::Communication => true,
-        },
-    }
-}
-
-// Whether two bytes are a continuation marker.
-pub(crate) fn is_marker(n: u16) -> bool
-    ensures { λ r. ⌜ r ≡ marker n ⌝ }
-{
-    if n == 0x7FFE {
-        return true;
-    }
-    n == 0x7FFF
-}
-
-// Whether a segment that is there starts an object of its own: more than four bytes of payload, of which the first two are a
-// length and the next two a code point.
-pub(crate) fn own_object(run: &[u8], at: usize, raw: u16) -> bool
-    requires { ⌜ (raw ≡ be16 (now run) at) × (at + raw ≤ length (now run)) ⌝ }
-    ensures { λ r. ⌜ r ≡ ownObject (now (run .entry)) at ⌝ }
-{
-    if raw <= 10 {
-        return false;
-    }
-    let code_point = wire::u16_at(run, at + 8);
-    if code_point <= 0x0100 {
-        return false;
-    }
-    let object_len = wire::u16_at(run, at + 6);
-    object_len <= raw - 2
-}
-
-// How many marker bytes of a segment that is there are dropped, behind a payload that starts an extended object or not. A
-// marker is the payload's first two bytes.
-pub(crate) fn dropped_at(run: &[u8], extended: bool, at: usize, raw: u16) -> usize
-    requires { ⌜ (raw ≡ be16 (now run) at) × (at + raw ≤ length (now run)) ⌝ }
-    ensures { λ r. ⌜ r ≡ droppedAt (now (run .entry)) extended at ⌝ }
-{
-    if !extended {
-        return 0;
-    }
-    if raw < 8 {
-        return 0;
-    }
-    if is_marker(wire::u16_at(run, at + 6)) {
-        return 2;
-    }
-    0
-}
-
-// What a head refused while looking ahead comes to.
-pub(crate) fn refusal(rules: Rules, refused: Refused) -> Look
-    ensures { λ r. ⌜ r ≡ lookedOf (refusal rules refused) ⌝ }
-{
-    match rules {
-        Rules::Reader => Look::Refuses(refused),
-        Rules::Salvage => Look::Finished,
-    }
-}
-
-// What a head that stands behind a frame comes to.
-pub(crate) fn look_head(
-    rules: Rules,
-    run: &[u8],
-    first: DssType,
-    extended: bool,
-    at: usize,
-    header: DssHeader,
-) -> Look
-    ensures { λ r. ⌜ r ≡ lookedOf (lookAt rules (now (run .entry)) first extended at (HeadFound.Head header)) ⌝ }
-{
-    let raw = wire::u16_at(run, at);
-    if raw == 0xFFFF {
-        return Look::Finished;
-    }
-    let flags = header.flags;
-    if !flags.same_correlation {
-        return Look::Finished;
-    }
-    let next = header.dss_type;
-    if !follows(first, next) {
-        return Look::Finished;
-    }
-    let cont_len = raw as usize;
-    if left(run, at) < cont_len {
-        return Look::Finished;
-    }
-    if cont_len < DSS_HEADER_LEN {
-        let why = Refusal::LengthTooShort(raw);
-        return refusal(rules, Refused { why, place: at });
-    }
-    if own_object(run, at, raw) {
-        return Look::Finished;
-    }
-    let dropped = dropped_at(run, extended, at, raw);
-    Look::Absorbs {
-        dropped,
-        end: at + cont_len,
-        chained: flags.chained,
-    }
-}
-
 // A look at what stands at a place behind a frame whose first segment has a type, and whose payload so far starts an extended
 // object or not.
 pub fn look_behind(rules: Rules, run: &[u8], first: DssType, extended: bool, at: usize) -> Look
@@ -340,74 +211,9 @@ pub fn look_behind(rules: Rules, run: &[u8], first: DssType, extended: bool, at:
         return Look::Finished;
     }
     match head_at(run, at) {
-        HeadFound::Head(header) => look_head(rules, run, first, extended, at, header),
-        HeadFound::Refused(refused) => refusal(rules, refused),
+        HeadFound::Head(header) => behind::look_head(rules, run, first, extended, at, header),
+        HeadFound::Refused(refused) => behind::refusal(rules, refused),
     }
-}
-
-// A byte of a part of a run; 0 beyond the part.
-pub(crate) fn part_byte(run: &[u8], from: usize, end: usize, i: usize) -> u8
-    requires { ⌜ from ≤ end ⌝ }
-    ensures { λ r. ⌜ r ≡ getD (part (now (run .entry)) from end) i 0 ⌝ }
-{
-    if end - from <= i {
-        return 0;
-    }
-    wire::byte_at(run, from + i)
-}
-
-// The payload so far, with a part of the run behind it.
-pub(crate) fn grown(sofar: Sofar, run: &[u8], from: usize, end: usize) -> Sofar
-    requires { ⌜ (sofar .len ≤ from) × (from ≤ end) × (end ≤ length (now run)) ⌝ }
-    ensures { λ r. ⌜ ((p : List ℕ) → sofar ≡ sofarOf p → r ≡ sofarOf (p ++ part (now (run .entry)) from end)) ⌝ }
-{
-    let len = sofar.len;
-    let more = end - from;
-    if len == 0 {
-        let first = part_byte(run, from, end, 0);
-        let second = part_byte(run, from, end, 1);
-        return Sofar {
-            len: more,
-            first,
-            second,
-        };
-    }
-    if len == 1 {
-        let second = part_byte(run, from, end, 0);
-        return Sofar {
-            len: 1 + more,
-            first: sofar.first,
-            second,
-        };
-    }
-    Sofar {
-        len: len + more,
-        first: sofar.first,
-        second: sofar.second,
-    }
-}
-
-// A payload of one part of the run.
-pub(crate) fn started(run: &[u8], from: usize, end: usize) -> Sofar
-    requires { ⌜ (from ≤ end) × (end ≤ length (now run)) ⌝ }
-    ensures { λ r. ⌜ r ≡ sofarOf (part (now (run .entry)) from end) ⌝ }
-{
-    let none = Sofar {
-        len: 0,
-        first: 0,
-        second: 0,
-    };
-    grown(none, run, from, end)
-}
-
-// Whether a payload so far starts an extended object.
-pub(crate) fn starts_extended(sofar: Sofar) -> bool
-    ensures { λ r. ⌜ r ≡ extendedBy sofar ⌝ }
-{
-    if sofar.len < 4 {
-        return false;
-    }
-    wire::u16_of(sofar.first, sofar.second) == 0x8004
 }
 
 // A head with another chained flag.
@@ -432,10 +238,10 @@ pub(crate) fn absorb(
     let mut header = head;
     let mut segments = 1;
     let mut end = at + seg_len;
-    let mut sofar = started(run, at + DSS_HEADER_LEN, end);
+    let mut sofar = payload::started(run, at + DSS_HEADER_LEN, end);
     loop {
         let first = header.dss_type;
-        let extended = starts_extended(sofar);
+        let extended = payload::starts_extended(sofar);
         match look_behind(rules, run, first, extended, end) {
             Look::Finished => {
                 return Measured::Frame(FrameMeasure {
@@ -453,7 +259,7 @@ pub(crate) fn absorb(
                 end: next,
                 chained,
             } => {
-                sofar = grown(sofar, run, end + DSS_HEADER_LEN + dropped, next);
+                sofar = payload::grown(sofar, run, end + DSS_HEADER_LEN + dropped, next);
                 header = with_chained(header, chained);
                 segments += 1;
                 end = next;

@@ -1,11 +1,11 @@
--- `dss_measure::refusal` meets its contract, rules by rules.
+-- `dss_measure::behind::refusal` meets its contract, rules by rules.
 use mathlib.Core.Path.{sym, ap}
 use borrow.Author.Needs.{needs}
 use Rattle.dss_frame.specs.Reading.{refusal}
 use Rattle.dss_frame.specs.declared.Rules.{Rules}
 use Rattle.dss_measure.specs.Measure.{lookedOf}
-use Rattle.dss_measure.proofs.refusal.Statement.{statement}
-use Rattle.dss_measure.proofs.refusal.Tie as tie
+use Rattle.dss_measure.proofs.behind.refusal.Statement.{statement}
+use Rattle.dss_measure.proofs.behind.refusal.Tie as tie
 
 enum-told : tie.Need-enum-told
 enum-told c = search needs

@@ -1,11 +1,11 @@
--- `dss_measure::starts_extended` meets its contract, by its two tests.
+-- `dss_measure::payload::starts_extended` meets its contract, by its two tests.
 use Prim.Native.Nat.{ℕ}
 use mathlib.Core.Path.{ap}
 use lib.Dec.{eqb}
 use borrow.Author.Needs.{needs}
 use borrow.Author.Tests.{lt-leb, le-leb}
-use Rattle.dss_measure.proofs.starts_extended.Statement.{statement}
-use Rattle.dss_measure.proofs.starts_extended.Tie as tie
+use Rattle.dss_measure.proofs.payload.starts_extended.Statement.{statement}
+use Rattle.dss_measure.proofs.payload.starts_extended.Tie as tie
 
 returns : tie.Need-returns
 returns c = rw (lt-leb 4 (c .before .before .args .sofar .len) (c .if1 .taken))

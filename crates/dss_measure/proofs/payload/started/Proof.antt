@@ -1,9 +1,9 @@
--- `dss_measure::started` meets its contract: it is a part behind the payload of no bytes.
+-- `dss_measure::payload::started` meets its contract: it is a part behind the payload of no bytes.
 use mathlib.Core.Path.{refl}
 use mathlib.Core.List.{[]}
 use borrow.Author.Needs.{needs}
-use Rattle.dss_measure.proofs.started.Statement.{statement}
-use Rattle.dss_measure.proofs.started.Tie as tie
+use Rattle.dss_measure.proofs.payload.started.Statement.{statement}
+use Rattle.dss_measure.proofs.payload.started.Tie as tie
 
 grown-requires : tie.Need-grown-requires
 grown-requires c κs = search needs

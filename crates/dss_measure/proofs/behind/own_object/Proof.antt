@@ -1,12 +1,12 @@
--- `dss_measure::own_object` meets its contract: each return is one of the laws of an object of its own.
+-- `dss_measure::behind::own_object` meets its contract: each return is one of the laws of an object of its own.
 use Prim.Native.Nat.{ℕ, _-_}
 use native.Mathlib.Omega.{arith}
 use mathlib.Core.Path.{sym, ap, _∙_}
 use lib.Dec.{leb}
 use borrow.Author.Needs.{needs}
 use Rattle.dss_measure.specs.Looks.{own-short, own-low, own-fits}
-use Rattle.dss_measure.proofs.own_object.Statement.{statement}
-use Rattle.dss_measure.proofs.own_object.Tie as tie
+use Rattle.dss_measure.proofs.behind.own_object.Statement.{statement}
+use Rattle.dss_measure.proofs.behind.own_object.Tie as tie
 
 returns : tie.Need-returns
 returns c =

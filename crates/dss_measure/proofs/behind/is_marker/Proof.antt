@@ -1,7 +1,7 @@
--- `dss_measure::is_marker` meets its contract, by its two tests.
+-- `dss_measure::behind::is_marker` meets its contract, by its two tests.
 use borrow.Author.Tests.{eq-eqb, ne-eqb}
-use Rattle.dss_measure.proofs.is_marker.Statement.{statement}
-use Rattle.dss_measure.proofs.is_marker.Tie as tie
+use Rattle.dss_measure.proofs.behind.is_marker.Statement.{statement}
+use Rattle.dss_measure.proofs.behind.is_marker.Tie as tie
 
 returns : tie.Need-returns
 returns c = rw (eq-eqb (c .before .args .n) 0x7FFE (c .if1 .taken))

@@ -1,12 +1,12 @@
--- `dss_measure::look_head` meets its contract: each return is one of the laws of a head behind a frame.
+-- `dss_measure::behind::look_head` meets its contract: each return is one of the laws of a head behind a frame.
 use native.Mathlib.Omega.{arith}
 use mathlib.Core.Path.{sym, ap, _∙_}
 use borrow.Author.Needs.{needs}
 use borrow.Author.Tests.{not-true, not-false}
 use Rattle.dss_measure.specs.Measure.{lookedOf}
 use Rattle.dss_measure.specs.Looks.{looks-several, looks-other, looks-type, looks-beyond, looks-short, Comes, looks-own, looks-absorbs}
-use Rattle.dss_measure.proofs.look_head.Statement.{statement}
-use Rattle.dss_measure.proofs.look_head.Tie as tie
+use Rattle.dss_measure.proofs.behind.look_head.Statement.{statement}
+use Rattle.dss_measure.proofs.behind.look_head.Tie as tie
 
 u16-at-requires : tie.Need-u16-at-requires
 u16-at-requires c κs = search needs

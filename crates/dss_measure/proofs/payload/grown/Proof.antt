@@ -1,12 +1,12 @@
--- `dss_measure::grown` meets its contract: each return is one of the laws of a part behind a payload, by how many bytes that has.
+-- `dss_measure::payload::grown` meets its contract: each return is one of the laws of a part behind a payload, by how many bytes that has.
 use Prim.Native.Nat.{_-_}
 use native.Mathlib.Omega.{arith}
 use borrow.Author.Needs.{needs}
 use Rattle.wire.specs.Bytes.{part}
 use Rattle.wire.specs.Laws.{part-length}
 use Rattle.dss_measure.specs.Sofars.{grown-none, grown-one, grown-more}
-use Rattle.dss_measure.proofs.grown.Statement.{statement}
-use Rattle.dss_measure.proofs.grown.Tie as tie
+use Rattle.dss_measure.proofs.payload.grown.Statement.{statement}
+use Rattle.dss_measure.proofs.payload.grown.Tie as tie
 
 sub-more : tie.Need-sub-more
 sub-more c = search needs

@@ -1,9 +1,9 @@
--- `dss_measure::part_byte` meets its contract: a byte inside the part is the run's, and beyond it there is none.
+-- `dss_measure::payload::part_byte` meets its contract: a byte inside the part is the run's, and beyond it there is none.
 use mathlib.Core.Path.{sym, _∙_}
 use borrow.Author.Needs.{needs}
 use Rattle.dss_measure.specs.Sofars.{part-past, part-inside}
-use Rattle.dss_measure.proofs.part_byte.Statement.{statement}
-use Rattle.dss_measure.proofs.part_byte.Tie as tie
+use Rattle.dss_measure.proofs.payload.part_byte.Statement.{statement}
+use Rattle.dss_measure.proofs.payload.part_byte.Tie as tie
 
 sub-if1 : tie.Need-sub-if1
 sub-if1 c = search needs

@@ -1,11 +1,11 @@
--- `dss_measure::dropped_at` meets its contract: each return is one of the laws of the dropped marker.
+-- `dss_measure::behind::dropped_at` meets its contract: each return is one of the laws of the dropped marker.
 use mathlib.Core.Path.{sym, ap, _∙_}
 use borrow.Author.Needs.{needs}
 use borrow.Author.Tests.{not-true, not-false}
 use Rattle.wire.specs.Bytes.{marker}
 use Rattle.dss_measure.specs.Looks.{dropped-plain, dropped-short, dropped-two, dropped-none}
-use Rattle.dss_measure.proofs.dropped_at.Statement.{statement}
-use Rattle.dss_measure.proofs.dropped_at.Tie as tie
+use Rattle.dss_measure.proofs.behind.dropped_at.Statement.{statement}
+use Rattle.dss_measure.proofs.behind.dropped_at.Tie as tie
 
 returns : tie.Need-returns
 returns c =
