@@ -1,16 +1,16 @@
 // DDM objects and parameters: document 01, "DDM".
+mod record; // record.rt: the record of one object
+mod rows; // rows.rt: the work area and the row of a list
+
 ghost use mathlib.Core.Path.{_≡_};
-ghost use Prim.Native.Nat.{_+_, _≤_, _<_, _^_};
-ghost use lib.ListN.{length, drop};
-ghost use Rattle.wire.specs.Bytes.{laid};
-ghost use Rattle.answer.specs.Rooms.{noRoom};
+ghost use Prim.Native.Nat.{_+_, _<_, _^_};
+ghost use lib.ListN.{length};
 ghost use Rattle.ddm_object.specs.Objects.{objects, allObjects, parameters};
-ghost use Rattle.ddm_object.specs.ObjectCalls.{inWork, ObjectAt, worksOf, ParsesObjects, ListsParameters, FindsParam, u16Of, u32Of, i32Of, totalLength};
+ghost use Rattle.ddm_object.specs.ObjectCalls.{ObjectAt, ParsesObjects, ListsParameters, FindsParam, u16Of, u32Of, i32Of, totalLength};
 ghost use Rattle.ddm_object.specs.Parts.{DataAt, RestAt};
 ghost use Rattle.ddm_object.specs.Finding.{PlaceIs, stepAt};
 ghost use Rattle.ddm_object.specs.Listing.{measuredAll, Walked};
-ghost use Rattle.ddm_object.specs.Rows.{walkedAs, countOf, TakesWork, Filled, ListsAs};
-ghost use Rattle.ddm_object.specs.Records.{recordFound, workLen, GivesIn};
+ghost use Rattle.ddm_object.specs.Rows.{walkedAs, countOf, TakesWork};
 use answer::Refusal;
 use answer::Refused;
 use ddm_length::Marshaled;
@@ -54,99 +54,6 @@ pub enum I32Found {
     Refused(Refused),
 }
 
-// Whether an object's data go through the work area: raw length 0x8004, and markers in it.
-pub(crate) fn in_work(bytes: &[u8]) -> bool
-    ensures { λ r. ⌜ r ≡ inWork (now (bytes .entry)) ⌝ }
-{
-    if wire::u16_at(bytes, 0) == 0x8004 {
-        if bytes.len() < 4 {
-            return false;
-        }
-        return ddm_length::has_markers(&bytes[4..]);
-    }
-    false
-}
-
-// The record of an object, by measuring alone; `bytes` is all that stands from its place on.
-pub(crate) fn record_in(bytes: &[u8], place: usize) -> ObjectFound
-    requires { ⌜ place + length (now bytes) < 2 ^ 64 ⌝ }
-    ensures { λ r. ⌜ r ≡ recordFound (now (bytes .entry)) place ⌝ }
-{
-    match ddm_length::measure_at(bytes, place) {
-        Marshaled::Takes { total, header } => {
-            let code_point = wire::u16_at(bytes, 2);
-            if in_work(bytes) {
-                let data_len = ddm_length::unmarked_len(&bytes[4..]);
-                return ObjectFound::Object(DdmObject {
-                    code_point,
-                    in_work: true,
-                    data_at: 0,
-                    data_len,
-                    consumed: total,
-                });
-            }
-            return ObjectFound::Object(DdmObject {
-                code_point,
-                in_work: false,
-                data_at: place + header,
-                data_len: total - header,
-                consumed: total,
-            });
-        }
-        Marshaled::Refused(r) => {
-            return ObjectFound::Refused(r);
-        }
-    }
-}
-
-// The same of the object at a place of a run: the part of the run from there on is handed on as a whole input.
-pub(crate) fn record_at(run: &[u8], at: usize) -> ObjectFound
-    requires { ⌜ at ≤ length (now run) ⌝ }
-    ensures { λ r. ⌜ r ≡ recordFound (drop at (now (run .entry))) at ⌝ }
-{
-    record_in(&run[at..], at)
-}
-
-// How much of the work area a record needs.
-pub(crate) fn work_len(o: DdmObject) -> usize
-    ensures { λ r. ⌜ r ≡ workLen o ⌝ }
-{
-    if o.in_work {
-        return o.data_len;
-    }
-    0
-}
-
-// An object whose record is found first, and whose data then go into the work area: 9 at the position that the call has.
-pub(crate) fn parse_in(bytes: &[u8], place: usize, position: usize, work: &mut [u8]) -> ObjectFound
-    requires { ⌜ place + length (now bytes) < 2 ^ 64 ⌝ }
-    ensures { λ r. ⌜ GivesIn (now (bytes .entry)) place position (now (work .entry)) r (now (work .exit)) ⌝ }
-{
-    match record_in(bytes, place) {
-        ObjectFound::Object(o) => {
-            if o.in_work {
-                let need = o.data_len;
-                if work.len() < need {
-                    let why = Refusal::NoRoom {
-                        bytes: need,
-                        records: 0,
-                    };
-                    return ObjectFound::Refused(Refused {
-                        why,
-                        place: position,
-                    });
-                }
-                ddm_length::strip_extended_ddm_continuation_markers(&bytes[4..], work);
-                return ObjectFound::Object(o);
-            }
-            return ObjectFound::Object(o);
-        }
-        ObjectFound::Refused(r) => {
-            return ObjectFound::Refused(r);
-        }
-    }
-}
-
 // The object at a place of a run: 10, then its own refusals, then 9.
 pub fn object_at(run: &[u8], at: usize, work: &mut [u8]) -> ObjectFound
     ensures { λ r. ⌜ ObjectAt (now (run .entry)) at (now (work .entry)) r (now (work .exit)) ⌝ }
@@ -158,7 +65,7 @@ pub fn object_at(run: &[u8], at: usize, work: &mut [u8]) -> ObjectFound
         };
         return ObjectFound::Refused(Refused { why, place: at });
     }
-    parse_in(&run[at..], at, at, work)
+    record::parse_in(&run[at..], at, at, work)
 }
 
 impl DdmObject {
@@ -263,9 +170,9 @@ pub(crate) fn walk(data: &[u8]) -> Extent
     let mut work: usize = 0;
     let mut at: usize = 0;
     loop {
-        match record_at(data, at) {
+        match record::record_at(data, at) {
             ObjectFound::Object(o) => {
-                work += work_len(o);
+                work += record::work_len(o);
                 count += 1;
                 at += o.consumed;
             }
@@ -319,29 +226,6 @@ pub fn measure_objects(run: &[u8]) -> ObjectsFound
     }
 }
 
-// Lays into the work area what the parameters, or the objects, need of it, where it has room for that: only one of raw length
-// 0x8004 needs any, and it takes all that is left.
-pub(crate) fn take_works(data: &[u8], work: &mut [u8])
-    ensures { λ _. ⌜ now (work .exit) ≡ laid (now (work .entry)) 0 (worksOf (now («data» .entry)) 0 (parameters (now («data» .entry)))) ⌝ }
-{
-    let mut at: usize = 0;
-    loop {
-        match record_at(data, at) {
-            ObjectFound::Object(o) => {
-                if o.in_work {
-                    let from = at + 4;
-                    ddm_length::strip_extended_ddm_continuation_markers(&data[from..], work);
-                    return;
-                }
-                at += o.consumed;
-            }
-            ObjectFound::Refused(_) => {
-                return;
-            }
-        }
-    }
-}
-
 // Where the first parameter with a code point stands.
 pub(crate) enum PlaceFound {
     At(usize),
@@ -353,7 +237,7 @@ pub(crate) fn find_place(data: &[u8], code_point: u16) -> PlaceFound
 {
     let mut at: usize = 0;
     loop {
-        match record_at(data, at) {
+        match record::record_at(data, at) {
             ObjectFound::Object(o) => {
                 if o.code_point == code_point {
                     return PlaceFound::At(at);
@@ -373,7 +257,7 @@ pub fn find_param(data: &[u8], code_point: u16, work: &mut [u8]) -> ObjectFound
 {
     match find_place(data, code_point) {
         PlaceFound::At(at) => {
-            return parse_in(&data[at..], at, 0, work);
+            return record::parse_in(&data[at..], at, 0, work);
         }
         PlaceFound::Nothing => {
             return ObjectFound::Refused(Refused {
@@ -396,7 +280,7 @@ pub fn step_at(data: &[u8], at: usize) -> Stepped
     if data.len() <= at {
         return Stepped::End;
     }
-    match record_at(data, at) {
+    match record::record_at(data, at) {
         ObjectFound::Object(o) => {
             let next = at + o.consumed;
             return Stepped::Param(o, next);
@@ -407,56 +291,13 @@ pub fn step_at(data: &[u8], at: usize) -> Stepped
     }
 }
 
-// Measures all objects of a run, or all parameters of an object's data.
-pub(crate) fn measure_as(data: &[u8], whole: bool) -> ObjectsFound
-    ensures { λ r. ⌜ r ≡ measuredAll (now («data» .entry)) (walkedAs whole (now («data» .entry))) ⌝ }
-{
-    if whole {
-        return measure_objects(data);
-    }
-    measure_parameters(data)
-}
-
-// 9, with what is needed.
-pub(crate) fn no_room(bytes: usize, records: usize) -> ObjectsFound
-    ensures { λ r. ⌜ r ≡ ObjectsFound.Refused (noRoom 0 bytes records) ⌝ }
-{
-    let why = Refusal::NoRoom { bytes, records };
-    ObjectsFound::Refused(Refused { why, place: 0 })
-}
-
-// Tests the work area and the row once all is measured, and lays into the work area what it gets.
-pub(crate) fn take_listed(
-    data: &[u8],
-    count: usize,
-    need: usize,
-    work: &mut [u8],
-    rows: usize,
-) -> ObjectsFound
-    requires { ⌜ count ≡ length (parameters (now «data»)) ⌝ }
-    requires { ⌜ need ≡ length (worksOf (now «data») 0 (parameters (now «data»))) ⌝ }
-    ensures { λ r. ⌜ TakesWork (now («data» .entry)) (objects (parameters (now («data» .entry)))) (now (work .entry)) rows r (now (work .exit)) ⌝ }
-{
-    if work.len() < need {
-        return no_room(need, count);
-    }
-    if rows < count {
-        return no_room(need, count);
-    }
-    if 0 < need {
-        take_works(data, work);
-        return ObjectsFound::Objects { count, work: need };
-    }
-    ObjectsFound::Objects { count, work: need }
-}
-
 // All but the row: measures, tests work area and row, lays into the work area, and answers.
 pub fn take_as(data: &[u8], whole: bool, work: &mut [u8], rows: usize) -> ObjectsFound
     ensures { λ r. ⌜ TakesWork (now («data» .entry)) (walkedAs whole (now («data» .entry))) (now (work .entry)) rows r (now (work .exit)) ⌝ }
 {
-    match measure_as(data, whole) {
+    match rows::measure_as(data, whole) {
         ObjectsFound::Objects { count, work: need } => {
-            return take_listed(data, count, need, work, rows);
+            return rows::take_listed(data, count, need, work, rows);
         }
         ObjectsFound::Refused(r) => {
             return ObjectsFound::Refused(r);
@@ -474,49 +315,18 @@ pub fn count_of(found: ObjectsFound) -> usize
     }
 }
 
-// The thin loop: the first n records of data into a row that has room for them.
-pub(crate) fn fill_row(data: &[u8], n: usize, row: &mut [DdmObject]) -> usize
-    requires { ⌜ n ≤ length (now row) ⌝ }
-    ensures { λ r. ⌜ Filled (now («data» .entry)) n (now (row .entry)) r (now (row .exit)) ⌝ }
-{
-    let mut i: usize = 0;
-    let mut at: usize = 0;
-    while i < n {
-        match step_at(data, at) {
-            Stepped::Param(o, next) => {
-                row[i] = o;
-                at = next;
-                i += 1;
-            }
-            Stepped::End => break,
-        }
-    }
-    i
-}
-
-// All objects of a run, or all parameters of an object's data: a work area and a row, all or nothing.
-pub(crate) fn list(data: &[u8], whole: bool, work: &mut [u8], row: &mut [DdmObject]) -> ObjectsFound
-    ensures { λ r. ⌜ ListsAs whole (now («data» .entry)) (now (work .entry)) (now (row .entry)) r (now (work .exit)) (now (row .exit)) ⌝ }
-{
-    let rows = row.len();
-    let found = take_as(data, whole, work, rows);
-    let n = count_of(found);
-    fill_row(data, n, row);
-    found
-}
-
 // All objects of a run, one record each; it ignores 1 to 3 last bytes, and is refused whole on any refusal.
 pub fn parse_ddm_objects(bytes: &[u8], work: &mut [u8], row: &mut [DdmObject]) -> ObjectsFound
     ensures { λ r. ⌜ ParsesObjects (now (bytes .entry)) (now (work .entry)) (now (row .entry)) r (now (work .exit)) (now (row .exit)) ⌝ }
 {
-    list(bytes, true, work, row)
+    rows::list(bytes, true, work, row)
 }
 
 // All parameters of an object's data, one record each; anything unfit ends the list silently.
 pub fn parameters(data: &[u8], work: &mut [u8], row: &mut [DdmObject]) -> ObjectsFound
     ensures { λ r. ⌜ ListsParameters (now («data» .entry)) (now (work .entry)) (now (row .entry)) r (now (work .exit)) (now (row .exit)) ⌝ }
 {
-    list(data, false, work, row)
+    rows::list(data, false, work, row)
 }
 
 // All that stands from a place on; beyond the data it is the empty part at its end.

@@ -3,8 +3,6 @@
 // which answers differ, the first few of them, and last how many there are and how many differ.
 mod turn; // turn.rt: one answer
 
-ghost use Prim.Native.Nat.{_≤_};
-ghost use lib.ListN.{length};
 use libc::STDOUT_FILENO;
 use replay_list::number::number_at;
 use turn::replayed;

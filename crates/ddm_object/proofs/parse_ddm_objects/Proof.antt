@@ -43,10 +43,10 @@ use Rattle.ddm_object.specs.declared.ObjectsFound.{ObjectsFound}
 use Rattle.ddm_object.proofs.DdmObject as R
 use Rattle.ddm_object.proofs.ObjectsFound as F
 use Rattle.ddm_object.proofs.ObjectsFound.Laws as F′
-use Rattle.ddm_object.proofs.list as list
-use Rattle.ddm_object.proofs.list.Symbol as list-def
-use Rattle.ddm_object.proofs.list.Symbol.{name as #ddm-object·list}
-use Rattle.ddm_object.proofs.list.Met as list-thm
+use Rattle.ddm_object.proofs.rows.list as list
+use Rattle.ddm_object.proofs.rows.list.Symbol as list-def
+use Rattle.ddm_object.proofs.rows.list.Symbol.{name as #ddm-object·list}
+use Rattle.ddm_object.proofs.rows.list.Met as list-thm
 use Rattle.ddm_object.proofs.parse_ddm_objects.Key.{name as #ddm-object·parse-ddm-objects}
 use Rattle.ddm_object.proofs.parse_ddm_objects as this
 use Rattle.ddm_object.proofs.parse_ddm_objects.Statement as stated
@@ -156,4 +156,4 @@ parse-ddm-objects-spec 𝓤 H 𝓜 𝓖 𝓡 =
     entered 𝓤 H (tripleOf 𝓤 H (𝓖 .A) this.signature (this.spec 𝓤 H (𝓖 .A) (𝓜 .mem) (𝓡 .run)))
     (tables 𝓤 H 𝓜 𝓡 code.env .C) (tables 𝓤 H 𝓜 𝓡 code.env .Λ) #ddm-object·parse-ddm-objects code.function (code.unfolded 𝓤 H 𝓜 𝓡)
     (this-meets 𝓤 H (𝓖 .A) (givenOf 𝓤 H 𝓜 𝓖) (𝓜 .mem) (𝓡 .run) (tablesOf 𝓤 H 𝓜 (tables 𝓤 H 𝓜 𝓡 code.env))
-    (cited 𝓤 H (ListOf 𝓤 H (𝓖 .A) (𝓜 .mem) (𝓡 .run)) 𝓜 𝓡 code.env #ddm-object·list list-def.routine code.calls-ddm-object·list (list-thm.met 𝓤 H 𝓜 𝓖 𝓡)))
+    (cited 𝓤 H (ListOf 𝓤 H (𝓖 .A) (𝓜 .mem) (𝓡 .run)) 𝓜 𝓡 code.env #ddm-object·list list-def.routine code.calls-ddm-object·rows·list (list-thm.met 𝓤 H 𝓜 𝓖 𝓡)))

@@ -1,4 +1,4 @@
--- `ddm_object::in_work` meets its contract: by the raw length, then by the markers in what follows the header.
+-- `ddm_object::record::in_work` meets its contract: by the raw length, then by the markers in what follows the header.
 use native.Mathlib.Omega.{arith}
 use mathlib.Core.Path.{sym, _∙_, ap}
 use lib.ListN.{drop-of-length-le}
@@ -6,8 +6,8 @@ use borrow.Author.Tests.{eq-eqb, ne-eqb}
 use Rattle.ddm_length.specs.Markers.{hasMarkers}
 use Rattle.wire.specs.Lent.{tail-drop}
 use borrow.Author.Needs.{needs}
-use Rattle.ddm_object.proofs.in_work.Statement.{statement}
-use Rattle.ddm_object.proofs.in_work.Tie as tie
+use Rattle.ddm_object.proofs.record.in_work.Statement.{statement}
+use Rattle.ddm_object.proofs.record.in_work.Tie as tie
 
 u16-at-requires : tie.Need-u16-at-requires
 u16-at-requires c κs = search needs

@@ -1,4 +1,4 @@
--- `ddm_object::record_in` meets its contract: the laws of the record, by what the length says.
+-- `ddm_object::record::record_in` meets its contract: the laws of the record, by what the length says.
 use native.Mathlib.Omega.{arith}
 use mathlib.Core.Path.{sym, _∙_}
 use Rattle.wire.specs.Lent.{tail-drop}
@@ -6,8 +6,8 @@ use Rattle.ddm_length.specs.Taken.{measured-taken}
 use Rattle.ddm_length.specs.Fronts.{in-order}
 use Rattle.ddm_object.specs.Records.{in-long, record-work, record-plain, record-refused}
 use borrow.Author.Needs.{needs}
-use Rattle.ddm_object.proofs.record_in.Statement.{statement}
-use Rattle.ddm_object.proofs.record_in.Tie as tie
+use Rattle.ddm_object.proofs.record.record_in.Statement.{statement}
+use Rattle.ddm_object.proofs.record.record_in.Tie as tie
 
 measure-at-requires : tie.Need-measure-at-requires
 measure-at-requires c κs = search needs

@@ -1,4 +1,4 @@
--- `ddm_object::parse_in` meets its contract: the laws of what is answered, by the record that was found.
+-- `ddm_object::record::parse_in` meets its contract: the laws of what is answered, by the record that was found.
 use Prim.Native.Nat.{_<_}
 use native.Mathlib.Omega.{arith}
 use mathlib.Core.Path.{sym, _∙_, ap}
@@ -8,8 +8,8 @@ use Rattle.ddm_length.specs.Markers.{unmarked}
 use Rattle.wire.specs.Lent.{tail-drop}
 use Rattle.ddm_object.specs.Records.{in-long, record-of, refused-of, rec-in, need-is, gives-plain, gives-work, gives-short, gives-refused}
 use borrow.Author.Needs.{needs}
-use Rattle.ddm_object.proofs.parse_in.Statement.{statement}
-use Rattle.ddm_object.proofs.parse_in.Tie as tie
+use Rattle.ddm_object.proofs.record.parse_in.Statement.{statement}
+use Rattle.ddm_object.proofs.record.parse_in.Tie as tie
 
 -- an object whose data go through the work area is long
 four-there : (c : tie.Else2) → 32763 < length (c .before .before .before .before .before .before .before .before .args .bytes .now)

@@ -1,7 +1,7 @@
--- `ddm_object::measure_as` meets its contract: one or the other, by the flag.
+-- `ddm_object::rows::measure_as` meets its contract: one or the other, by the flag.
 use borrow.Author.Needs.{needs}
-use Rattle.ddm_object.proofs.measure_as.Statement.{statement}
-use Rattle.ddm_object.proofs.measure_as.Tie as tie
+use Rattle.ddm_object.proofs.rows.measure_as.Statement.{statement}
+use Rattle.ddm_object.proofs.rows.measure_as.Tie as tie
 
 measure-objects-requires : tie.Need-measure-objects-requires
 measure-objects-requires c κs = search needs

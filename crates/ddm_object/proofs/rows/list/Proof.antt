@@ -1,4 +1,4 @@
--- `ddm_object::list` meets its contract: a walk of its MIR, by hand, with no branch. All that it knows of `take_as`, `count_of` and
+-- `ddm_object::rows::list` meets its contract: a walk of its MIR, by hand, with no branch. All that it knows of `take_as`, `count_of` and
 -- `fill_row` is that each meets its contract. The work area's borrow goes to `take_as` and the row's to `fill_row`, each at its
 -- own lifetime, share and name: both are given up for good, and what the callees say of the last lists is what is said at exit.
 use mathlib.Core.Path.{_≡_, refl, sym, subst}
@@ -53,15 +53,15 @@ use Rattle.ddm_object.proofs.count_of as count
 use Rattle.ddm_object.proofs.count_of.Symbol as count-def
 use Rattle.ddm_object.proofs.count_of.Symbol.{name as #ddm-object·count-of}
 use Rattle.ddm_object.proofs.count_of.Met as count-thm
-use Rattle.ddm_object.proofs.fill_row as fill
-use Rattle.ddm_object.proofs.fill_row.Symbol as fill-def
-use Rattle.ddm_object.proofs.fill_row.Symbol.{name as #ddm-object·fill-row}
-use Rattle.ddm_object.proofs.fill_row.Met as fill-thm
-use Rattle.ddm_object.proofs.list.Key.{name as #ddm-object·list}
-use Rattle.ddm_object.proofs.list as list
-use Rattle.ddm_object.proofs.list.Statement as stated
-use Rattle.ddm_object.proofs.list.Code as code
-use Rattle.ddm_object.proofs.list.Code.Mir as mir
+use Rattle.ddm_object.proofs.rows.fill_row as fill
+use Rattle.ddm_object.proofs.rows.fill_row.Symbol as fill-def
+use Rattle.ddm_object.proofs.rows.fill_row.Symbol.{name as #ddm-object·fill-row}
+use Rattle.ddm_object.proofs.rows.fill_row.Met as fill-thm
+use Rattle.ddm_object.proofs.rows.list.Key.{name as #ddm-object·list}
+use Rattle.ddm_object.proofs.rows.list as list
+use Rattle.ddm_object.proofs.rows.list.Statement as stated
+use Rattle.ddm_object.proofs.rows.list.Code as code
+use Rattle.ddm_object.proofs.rows.list.Code.Mir as mir
 
 abbrev stayed : Stays (list.ended .signature .params) (list.ended .kept)
 stayed = (stay-none-slice (0 ∷ []) tt (plain (λ _. u8)) yes, (stay-none (λ _. bool) yes, (gave-slice (1 ∷ []) tt (plain (λ _. u8)), (gave-slice (2 ∷ []) tt (plain (λ _. R.the-row)), tt))))
@@ -252,4 +252,4 @@ list-spec 𝓤 H 𝓜 𝓖 𝓡 =
     (list-meets 𝓤 H (𝓖 .A) (givenOf 𝓤 H 𝓜 𝓖) (𝓜 .mem) (𝓡 .run) (tablesOf 𝓤 H 𝓜 (tables 𝓤 H 𝓜 𝓡 code.env))
     (cited 𝓤 H (TakeAs 𝓤 H (𝓖 .A) (𝓜 .mem) (𝓡 .run)) 𝓜 𝓡 code.env #ddm-object·take-as take-def.routine code.calls-ddm-object·take-as (take-thm.met 𝓤 H 𝓜 𝓖 𝓡))
     (cited 𝓤 H (CountOf 𝓤 H (𝓖 .A) (𝓜 .mem) (𝓡 .run)) 𝓜 𝓡 code.env #ddm-object·count-of count-def.routine code.calls-ddm-object·count-of (count-thm.met 𝓤 H 𝓜 𝓖 𝓡))
-    (cited 𝓤 H (FillRow 𝓤 H (𝓖 .A) (𝓜 .mem) (𝓡 .run)) 𝓜 𝓡 code.env #ddm-object·fill-row fill-def.routine code.calls-ddm-object·fill-row (fill-thm.met 𝓤 H 𝓜 𝓖 𝓡)))
+    (cited 𝓤 H (FillRow 𝓤 H (𝓖 .A) (𝓜 .mem) (𝓡 .run)) 𝓜 𝓡 code.env #ddm-object·fill-row fill-def.routine code.calls-ddm-object·rows·fill-row (fill-thm.met 𝓤 H 𝓜 𝓖 𝓡)))

@@ -1,4 +1,4 @@
--- `ddm_object::take_works` meets its contract. The invariant: nothing passed so far goes through the work area.
+-- `ddm_object::rows::take_works` meets its contract. The invariant: nothing passed so far goes through the work area.
 use Prim.Native.Nat.{_-_, _+_, _≤_}
 use native.Mathlib.Omega.{arith}
 use mathlib.Core.Path.{_≡_, refl, sym, _∙_, ap, ap₂}
@@ -9,8 +9,8 @@ use Rattle.wire.specs.Lent.{tail-drop}
 use Rattle.ddm_object.specs.Records.{record-of, refused-of, record-next}
 use Rattle.ddm_object.specs.Finding.{Seeking, seeking-start, seeking-step, seeking-found, seeking-end}
 use borrow.Author.Needs.{needs}
-use Rattle.ddm_object.proofs.take_works.Statement.{statement}
-use Rattle.ddm_object.proofs.take_works.Tie as tie
+use Rattle.ddm_object.proofs.rows.take_works.Statement.{statement}
+use Rattle.ddm_object.proofs.rows.take_works.Tie as tie
 
 abbrev Inv-loop : tie.InvT-loop
 Inv-loop «data» work₀ at₀ work at = Seeking «data» at × (work ≡ work₀)

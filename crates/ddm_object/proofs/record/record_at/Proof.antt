@@ -1,10 +1,10 @@
--- `ddm_object::record_at` meets its contract: what stands from a place on, as a part, is what is left without the bytes before.
+-- `ddm_object::record::record_at` meets its contract: what stands from a place on, as a part, is what is left without the bytes before.
 use mathlib.Core.Path.{_∙_, ap}
 use Rattle.wire.specs.Lent.{tail-drop}
 use Rattle.ddm_object.specs.Records.{recordFound}
 use borrow.Author.Needs.{needs}
-use Rattle.ddm_object.proofs.record_at.Statement.{statement}
-use Rattle.ddm_object.proofs.record_at.Tie as tie
+use Rattle.ddm_object.proofs.record.record_at.Statement.{statement}
+use Rattle.ddm_object.proofs.record.record_at.Tie as tie
 
 sub-record-in : tie.Need-sub-record-in
 sub-record-in c = search needs

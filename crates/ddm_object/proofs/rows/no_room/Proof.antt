@@ -1,9 +1,9 @@
--- `ddm_object::no_room` meets its contract: what a machine number says is below 2^64.
+-- `ddm_object::rows::no_room` meets its contract: what a machine number says is below 2^64.
 use Prim.Native.Nat.{_^_}
 use native.Mathlib.Omega.{arith}
 use borrow.Author.Tests.{lt-ltb}
-use Rattle.ddm_object.proofs.no_room.Statement.{statement}
-use Rattle.ddm_object.proofs.no_room.Tie as tie
+use Rattle.ddm_object.proofs.rows.no_room.Statement.{statement}
+use Rattle.ddm_object.proofs.rows.no_room.Tie as tie
 
 returns : tie.Need-returns
 returns c =

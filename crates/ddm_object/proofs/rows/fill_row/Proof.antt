@@ -1,4 +1,4 @@
--- `ddm_object::fill_row` meets its contract: a walk of its MIR, by hand. The borrow of the row is opened once, before the loop,
+-- `ddm_object::rows::fill_row` meets its contract: a walk of its MIR, by hand. The borrow of the row is opened once, before the loop,
 -- and closed once, after it. A turn calls `step_at`, goes by cases on what it found, and stores a record.
 -- The loop's state: the records stored so far (done), what stood there before (old), what still stands behind them (left), how
 -- many are still to come at most (more), and the place. The variant is more.
@@ -66,11 +66,11 @@ use Rattle.ddm_object.proofs.step_at as step
 use Rattle.ddm_object.proofs.step_at.Symbol as step-def
 use Rattle.ddm_object.proofs.step_at.Symbol.{name as #ddm-object·step-at}
 use Rattle.ddm_object.proofs.step_at.Met as step-thm
-use Rattle.ddm_object.proofs.fill_row.Key.{name as #ddm-object·fill-row}
-use Rattle.ddm_object.proofs.fill_row as fill
-use Rattle.ddm_object.proofs.fill_row.Statement as stated
-use Rattle.ddm_object.proofs.fill_row.Code as code
-use Rattle.ddm_object.proofs.fill_row.Code.Mir as mir
+use Rattle.ddm_object.proofs.rows.fill_row.Key.{name as #ddm-object·fill-row}
+use Rattle.ddm_object.proofs.rows.fill_row as fill
+use Rattle.ddm_object.proofs.rows.fill_row.Statement as stated
+use Rattle.ddm_object.proofs.rows.fill_row.Code as code
+use Rattle.ddm_object.proofs.rows.fill_row.Code.Mir as mir
 
 abbrev stayed : Stays (fill.ended .signature .params) (fill.ended .kept)
 stayed = (stay-none-slice (0 ∷ []) tt (plain (λ _. u8)) yes, (stay-none (λ _. usize) yes, (stay-slice (1 ∷ []) tt (plain (λ _. R.the-row)), tt)))

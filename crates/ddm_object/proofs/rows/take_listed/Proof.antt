@@ -1,10 +1,10 @@
--- `ddm_object::take_listed` meets its contract: the laws of what is answered, by the two tests.
+-- `ddm_object::rows::take_listed` meets its contract: the laws of what is answered, by the two tests.
 use mathlib.Core.Path.{sym, subst}
 use Rattle.ddm_object.specs.Objects.{objects, parameters}
 use Rattle.ddm_object.specs.Rows.{TakesWork, takes-both, takes-none, takes-no-bytes, takes-no-rows}
 use borrow.Author.Needs.{needs}
-use Rattle.ddm_object.proofs.take_listed.Statement.{statement}
-use Rattle.ddm_object.proofs.take_listed.Tie as tie
+use Rattle.ddm_object.proofs.rows.take_listed.Statement.{statement}
+use Rattle.ddm_object.proofs.rows.take_listed.Tie as tie
 
 no-room-requires : tie.Need-no-room-requires
 no-room-requires c κs = search needs
