@@ -85,6 +85,16 @@ impl Chance {
     pub fn byte(&mut self) -> u8 {
         (self.next() >> 56) as u8
     }
+
+    /// So many bytes.
+    pub fn bytes(&mut self, len: usize) -> Vec<u8> {
+        let mut bytes = Vec::with_capacity(len + 8);
+        while bytes.len() < len {
+            bytes.extend(self.next().to_be_bytes());
+        }
+        bytes.truncate(len);
+        bytes
+    }
 }
 
 /// The argument at a place, as a number.

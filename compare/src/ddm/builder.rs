@@ -1,7 +1,6 @@
 //! Building: the port's functions against the Rust's DdmBuilder and its three builders.
 use super::building::{around, build, every_call, hold, input, Call};
 use super::case::Held;
-use super::lengths::any;
 use super::rust::text::{self, DdmBuilder};
 use crate::answers::Bytes;
 use crate::{Chance, Tally};
@@ -12,7 +11,7 @@ fn lengths() -> impl Iterator<Item = usize> {
 }
 
 pub fn edges(tally: &mut Tally, held: &mut Held, chance: &mut Chance) {
-    let bytes = any(chance, 66_000);
+    let bytes = chance.bytes(66_000);
     for len in lengths() {
         let from = chance.below(66_000 - len);
         let data = &bytes[from..from + len];
@@ -74,11 +73,11 @@ pub fn one_behind_the_other(tally: &mut Tally, held: &mut Held, chance: &mut Cha
     let long = chance.below(64) == 0;
     let size = chance.below(if long { 70_000 } else { 400 });
     let (cp, mut rust) = (chance.next() as u16, DdmBuilder::new(0));
-    let (mut fill, mut room) = (0, any(chance, size));
+    let (mut fill, mut room) = (0, chance.bytes(size));
     let mut holds = room.clone();
     for _ in 0..chance.below(12) {
         let len = chance.below(if long { 40_000 } else { 50 });
-        let data = any(chance, len);
+        let data = chance.bytes(len);
         let call = every_call(chance.next() as u16, chance.next() as u32)[chance.below(4)];
         let numbers = input(call, &[fill, len, size]);
         let mut words = [0; 8];
@@ -114,7 +113,7 @@ pub fn random(tally: &mut Tally, held: &mut Held, chance: &mut Chance) {
         0 => 32_755 + chance.below(20),
         _ => chance.below(64),
     };
-    let data = any(chance, len);
+    let data = chance.bytes(len);
     let call = every_call(chance.next() as u16, chance.next() as u32)[chance.below(7)];
     let fill = chance.below(48);
     held.lent_words = 6 + chance.below(5);

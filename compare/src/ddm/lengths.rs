@@ -16,20 +16,10 @@ pub fn headed(raw: usize, code_point: u16, behind: &[u8]) -> Vec<u8> {
     [&[a, b, c, d], behind].concat()
 }
 
-/// So many bytes of any kind.
-pub fn any(chance: &mut Chance, len: usize) -> Vec<u8> {
-    let mut bytes = Vec::with_capacity(len + 8);
-    while bytes.len() < len {
-        bytes.extend(chance.next().to_be_bytes());
-    }
-    bytes.truncate(len);
-    bytes
-}
-
 /// Every raw length before 0, 1, 8 and 20 bytes of any kind, and cut by each of the four bytes.
 pub fn raws(tally: &mut Tally, held: &mut Held, chance: &mut Chance) {
     for raw in 0..=0xFFFF {
-        let run = headed(raw, raw as u16 ^ 0x2412, &any(chance, 20));
+        let run = headed(raw, raw as u16 ^ 0x2412, &chance.bytes(20));
         for len in [4, 5, 12, 24] {
             held.hold_length(tally, &run[..len]);
             held.hold_object(tally, &run[..len], 0);
@@ -43,7 +33,7 @@ pub fn raws(tally: &mut Tally, held: &mut Held, chance: &mut Chance) {
 /// Lengths that are just there, and one more and one less: every inline one up to 600, and those around its largest.
 pub fn fitting(tally: &mut Tally, held: &mut Held, chance: &mut Chance) {
     for raw in (0..=600).chain(0x7FF8..=0x7FFF) {
-        let run = headed(raw, 0x2412, &any(chance, raw));
+        let run = headed(raw, 0x2412, &chance.bytes(raw));
         for len in raw.saturating_sub(1)..=raw + 1 {
             all(tally, held, &run[..len]);
         }
@@ -67,7 +57,7 @@ fn length_bytes(chance: &mut Chance, header: usize) -> Vec<Vec<u8>> {
     let width = header.saturating_sub(4);
     let most = u64::MAX - header as u64;
     let near = DATA.len() as u64;
-    let mut all = vec![vec![0xFF; width], any(chance, width)];
+    let mut all = vec![vec![0xFF; width], chance.bytes(width)];
     for number in [0, 1, near - 1, near, near + 1, 1 << 32, 1 << 63]
         .into_iter()
         .chain(most - 6..=most + 4)

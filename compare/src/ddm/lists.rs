@@ -1,6 +1,6 @@
 //! Lists of objects and parameters: good ones, unfit ones, cut, damaged.
 use super::case::Held;
-use super::lengths::{all, any, headed};
+use super::lengths::{all, headed};
 use crate::{Chance, Tally};
 
 /// Extended: so many length bytes, a number, and so many bytes of data behind them.
@@ -135,7 +135,7 @@ fn piece(chance: &mut Chance) -> Vec<u8> {
             let unfit = unfit();
             unfit[chance.below(unfit.len())].clone()
         }
-        1 => headed(0x8004, code_point, &any(chance, len)),
+        1 => headed(0x8004, code_point, &chance.bytes(len)),
         2..=6 => extended(1 + chance.below(12), len as u64, code_point, len),
         7 => extended(
             8 + chance.below(3),
@@ -143,6 +143,6 @@ fn piece(chance: &mut Chance) -> Vec<u8> {
             code_point,
             len,
         ),
-        _ => headed(4 + len, code_point, &any(chance, len)),
+        _ => headed(4 + len, code_point, &chance.bytes(len)),
     }
 }

@@ -1,6 +1,6 @@
 //! Continuation markers: data around each edge, with markers and without, by themselves, as an object and as a parameter.
 use super::case::{Held, MOST};
-use super::lengths::{any, headed};
+use super::lengths::headed;
 use crate::{Chance, Tally};
 
 /// Document 01's chunks: the first, and each after it.
@@ -52,7 +52,7 @@ fn hold(tally: &mut Tally, held: &mut Held, data: &[u8], whole: bool) {
 
 /// Lengths around each place where data change: at the place of each marker, behind it, and at the end of a chunk.
 pub fn edges(tally: &mut Tally, held: &mut Held, chance: &mut Chance) {
-    let bytes = any(chance, MOST);
+    let bytes = chance.bytes(MOST);
     for mask in 0..16 {
         for (bit, place) in places(mask).into_iter().enumerate() {
             // The places up to it are those of the mask's lower bits alone: the higher ones are tried at its own place.
@@ -75,7 +75,7 @@ pub fn edges(tally: &mut Tally, held: &mut Held, chance: &mut Chance) {
 
 /// One marker at each place around the one that matters: it alone has an effect. And markers all over the data.
 pub fn beside(tally: &mut Tally, held: &mut Held, chance: &mut Chance) {
-    let bytes = any(chance, MOST);
+    let bytes = chance.bytes(MOST);
     for len in [FIRST + 2, FIRST + 3, FIRST + 10, FIRST + NEXT + 12] {
         for place in places(1)[..2].iter().flat_map(|at| at - 4..=at + 4) {
             for kind in KINDS {
@@ -97,7 +97,7 @@ pub fn beside(tally: &mut Tally, held: &mut Held, chance: &mut Chance) {
 /// Data of the same raw length that are no object of it: an inline one, and an extended one. Nothing is removed from them.
 pub fn others(tally: &mut Tally, held: &mut Held, chance: &mut Chance) {
     for len in [32_762, 32_763, 32_764, 40_000] {
-        let bytes = any(chance, len);
+        let bytes = chance.bytes(len);
         let data = marked(&bytes, len, 15, KINDS[0]);
         let inline = headed(len + 4, 0x241B, &data);
         let number = (len as u32).to_be_bytes();
@@ -117,7 +117,7 @@ pub fn random(tally: &mut Tally, held: &mut Held, chance: &mut Chance) {
         0 => FIRST + chance.below(3 * NEXT + 40),
         _ => chance.below(40),
     };
-    let bytes = any(chance, len);
+    let bytes = chance.bytes(len);
     let kind = KINDS[chance.below(4)];
     let data = marked(&bytes, len, chance.below(16), kind);
     hold(tally, held, &data, chance.below(4) == 0);

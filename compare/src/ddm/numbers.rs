@@ -1,6 +1,5 @@
 //! Numbers read from data, and lengths of what would be built.
 use super::case::Held;
-use super::lengths::any;
 use super::rust::text;
 use crate::port;
 use crate::{Chance, Tally};
@@ -57,7 +56,7 @@ pub fn read_all(tally: &mut Tally, held: &mut Held) {
 
 pub fn random(tally: &mut Tally, held: &mut Held, chance: &mut Chance) {
     let len = chance.below(7);
-    let data = any(chance, len);
+    let data = chance.bytes(len);
     held.lent_words = 7 + chance.below(3);
     read(tally, held, &data);
     held.lent_words = 8;

@@ -8,6 +8,13 @@ use db2_proto::dss::{DssType, DssWriter};
 pub const EDGES: [usize; 3] = [32_761, 65_526, 98_291];
 pub const AROUND: usize = 3;
 
+pub const TYPES: [DssType; 4] = [
+    DssType::Request,
+    DssType::Reply,
+    DssType::Object,
+    DssType::Communication,
+];
+
 /// The raw lengths of continuations that are tried: below a continuation's own two bytes, just above, and around each edge.
 pub const RAWS: [u16; 14] = [
     0, 1, 2, 3, 4, 5, 6, 0x7FFD, 0x7FFE, 0x7FFF, 0x8000, 0x8001, 0xFFFE, 0xFFFF,
@@ -15,16 +22,6 @@ pub const RAWS: [u16; 14] = [
 
 /// The raw lengths of long segments.
 const LONG: [u16; 5] = [0x7FFE, 0x7FFF, 0x8000, 0x8004, 0xFFFE];
-
-/// So many bytes of any kind.
-pub fn any(chance: &mut Chance, len: usize) -> Vec<u8> {
-    let mut bytes = Vec::with_capacity(len + 8);
-    while bytes.len() < len {
-        bytes.extend(chance.next().to_be_bytes());
-    }
-    bytes.truncate(len);
-    bytes
-}
 
 /// The Rust's own frame of a payload.
 pub fn written(dss_type: DssType, same_correlation: bool, payload: &[u8]) -> Vec<u8> {
@@ -36,7 +33,7 @@ pub fn written(dss_type: DssType, same_correlation: bool, payload: &[u8]) -> Vec
 /// A frame of raw length 0xFFFF with continuations of these raw lengths, each with as many bytes as it takes; and where each
 /// continuation starts, and the end.
 pub fn continued(chance: &mut Chance, format: u8, raws: &[u16]) -> (Vec<u8>, Vec<usize>) {
-    let mut bytes = frame(0xFFFF, format, 7, &any(chance, 32_761));
+    let mut bytes = frame(0xFFFF, format, 7, &chance.bytes(32_761));
     let mut places = vec![bytes.len()];
     for raw in raws {
         let takes = match raw {
@@ -44,7 +41,7 @@ pub fn continued(chance: &mut Chance, format: u8, raws: &[u16]) -> (Vec<u8>, Vec
             other => *other as usize,
         };
         bytes.extend(raw.to_be_bytes());
-        bytes.extend(any(chance, takes.max(2) - 2));
+        bytes.extend(chance.bytes(takes.max(2) - 2));
         places.push(bytes.len());
     }
     (bytes, places)
@@ -53,18 +50,12 @@ pub fn continued(chance: &mut Chance, format: u8, raws: &[u16]) -> (Vec<u8>, Vec
 /// Frames around each edge as the Rust writes them: alone, before a segment of the same correlation, before a frame; and behind
 /// a frame of their type, where they have the same correlation and, of raw length 0xFFFF, still start a frame of their own.
 pub fn edges(tally: &mut Tally, held: &mut Held, chance: &mut Chance) {
-    let types = [
-        DssType::Request,
-        DssType::Reply,
-        DssType::Object,
-        DssType::Communication,
-    ];
     for len in EDGES
         .into_iter()
         .flat_map(|edge| edge - AROUND..=edge + AROUND)
     {
-        let payload = any(chance, len);
-        for (dss_type, next) in types.into_iter().zip([0, 0x13, 0x03, 0x14]) {
+        let payload = chance.bytes(len);
+        for (dss_type, next) in TYPES.into_iter().zip([0, 0x13, 0x03, 0x14]) {
             let mut run = written(dss_type, len % 2 == 0, &payload);
             if next != 0 {
                 run.extend(framed(next, 9, &[0x7F, 0xFE, 0xC1]));
@@ -77,24 +68,29 @@ pub fn edges(tally: &mut Tally, held: &mut Held, chance: &mut Chance) {
     }
 }
 
-/// Continuations of each raw length, the first one, behind one of 0xFFFF and behind one of 0x7FFF, with a segment behind them
-/// that could be absorbed: whole, and cut around each continuation's start. A head is refused only where the frame is whole.
-pub fn continuations(tally: &mut Tally, held: &mut Held, chance: &mut Chance) {
+/// Runs with continuations of each raw length, the first one, behind one of 0xFFFF and behind one of 0x7FFF, before what stands
+/// behind them: whole, cut around each continuation's start, and with the frame's own head spoilt.
+pub fn each_continued(chance: &mut Chance, behind: &[u8], mut hold: impl FnMut(&[u8])) {
     for before in [&[][..], &[0xFFFF], &[0x7FFF]] {
         for raw in RAWS {
-            let raws = [before, &[raw]].concat();
-            let (mut run, places) = continued(chance, 0x43, &raws);
-            run.extend(framed(0x13, 7, &[0xC1, 0xC2]));
-            held.hold(tally, &run);
+            let (mut run, places) = continued(chance, 0x43, &[before, &[raw]].concat());
+            run.extend(behind);
+            hold(&run);
             for place in places {
                 for cut in [place - 1, place, place + 1, place + 2] {
-                    held.hold(tally, &run[..cut.min(run.len())]);
+                    hold(&run[..cut.min(run.len())]);
                 }
             }
             run[if raw % 2 == 0 { 2 } else { 3 }] = 0xD5;
-            held.hold(tally, &run);
+            hold(&run);
         }
     }
+}
+
+/// Continuations with a segment behind them that could be absorbed. A head is refused only where the frame is whole.
+pub fn continuations(tally: &mut Tally, held: &mut Held, chance: &mut Chance) {
+    let behind = framed(0x13, 7, &[0xC1, 0xC2]);
+    each_continued(chance, &behind, |run| held.hold(tally, run));
 }
 
 /// Long segments absorbed: each raw length behind each other, with and without a marker behind 80 04, and cut by a byte.
@@ -102,10 +98,10 @@ pub fn absorbed(tally: &mut Tally, held: &mut Held, chance: &mut Chance) {
     for first in LONG {
         for second in LONG {
             for start in [&[0x80, 0x04, 0x24, 0x1B][..], &[0x80, 0x05, 0x24, 0x1B]] {
-                let mut payload = any(chance, first as usize - 6);
+                let mut payload = chance.bytes(first as usize - 6);
                 payload[..4].copy_from_slice(start);
                 let mut run = frame(first, 0x02, 1, &payload);
-                let mut payload = any(chance, second as usize - 6);
+                let mut payload = chance.bytes(second as usize - 6);
                 payload[..4].copy_from_slice(&[0x7F, 0xFE + first as u8 % 2, 0, 0]);
                 run.extend(frame(second, 0x53, 1, &payload));
                 held.hold(tally, &run[..run.len() - 1]);

@@ -1,5 +1,5 @@
 //! Random runs of up to six frames around every edge, and how they are damaged and cut.
-use super::long::{any, continued, written, AROUND, EDGES, RAWS};
+use super::long::{continued, written, AROUND, EDGES, RAWS};
 use super::short::frame;
 use crate::Chance;
 use db2_proto::dss::DssType;
@@ -91,7 +91,7 @@ impl Run {
         match chance.below(3) {
             0 => {
                 let len = EDGES[chance.below(3)] - AROUND + chance.below(2 * AROUND + 1);
-                let payload = any(chance, len);
+                let payload = chance.bytes(len);
                 self.push(&written(dss_type, chance.below(2) == 0, &payload));
             }
             1 => {
@@ -106,7 +106,7 @@ impl Run {
             }
             _ => {
                 let length = [0x7FFE, 0x7FFF, 0x8000, 0xFFFE][chance.below(4)];
-                let mut payload = any(chance, length as usize - 6);
+                let mut payload = chance.bytes(length as usize - 6);
                 let start = STARTS[chance.below(STARTS.len())];
                 payload[..start.len()].copy_from_slice(start);
                 self.push(&frame(length, format, 1, &payload));

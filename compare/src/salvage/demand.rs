@@ -4,7 +4,6 @@
 use super::Held;
 use crate::answers::{done, refused, Words};
 use crate::port::{self, Loan};
-use crate::reader::long::any;
 use crate::rows::{frame_words, Listed};
 use crate::{Chance, Tally};
 use db2_proto::dss::{DssType, DssWriter};
@@ -32,7 +31,7 @@ fn sent(chance: &mut Chance) -> Sent {
         _ => chance.below(24),
     };
     let mut same_correlation = chance.below(2) == 0;
-    let mut payload = any(chance, len);
+    let mut payload = chance.bytes(len);
     if same_correlation && len <= 32_761 {
         len = len.max(5);
         payload.resize(len, 0xC1);

@@ -1,10 +1,9 @@
 //! Runs to salvage: short ones one and all, long ones around each edge, and random ones, each damaged and cut.
 use super::{Held, MOST};
-use crate::reader::long::{any, continued, written, RAWS};
+use crate::reader::long::{each_continued, written, TYPES};
 use crate::reader::short::{every_frame, frame, framed};
 use crate::reader::{runs, PAPER};
 use crate::{Chance, Tally};
-use db2_proto::dss::DssType;
 
 /// Once in so many random runs there are long frames.
 const LONG: usize = 200;
@@ -102,15 +101,9 @@ pub fn three(tally: &mut Tally, held: &mut Held) {
 /// Frames around each edge as the Rust writes them, between short ones: good, and with a spoilt magic or type, and cut around
 /// each segment's start and end. Of 65,526 bytes a frame isn't whole by itself.
 pub fn edges(tally: &mut Tally, held: &mut Held, chance: &mut Chance) {
-    let types = [
-        DssType::Request,
-        DssType::Reply,
-        DssType::Object,
-        DssType::Communication,
-    ];
     for len in [32_760, 32_761, 32_762, 65_525, 65_526, 65_527, 98_292] {
-        let payload = any(chance, len);
-        for (dss_type, same) in types.into_iter().zip([true, false, true, false]) {
+        let payload = chance.bytes(len);
+        for (dss_type, same) in TYPES.into_iter().zip([true, false, true, false]) {
             let long = written(dss_type, same, &payload);
             for (place, byte) in [(2, 0xD0), (2, 0xD1), (3, 0x55), (3, 0x10)] {
                 let mut run = [TWO, &long, GOOD, TWO].concat();
@@ -129,28 +122,13 @@ pub fn edges(tally: &mut Tally, held: &mut Held, chance: &mut Chance) {
     }
 }
 
-/// Continuations of each raw length, the first one, behind one of 0xFFFF and behind one of 0x7FFF, with a segment behind them
-/// that could be absorbed: whole, cut, and with the frame's own head spoilt.
+/// Continuations with frames behind them, of which the first could be absorbed.
 pub fn continuations(tally: &mut Tally, held: &mut Held, chance: &mut Chance) {
-    for before in [&[][..], &[0xFFFF], &[0x7FFF]] {
-        for raw in RAWS {
-            let raws = [before, &[raw]].concat();
-            let (long, places) = continued(chance, 0x43, &raws);
-            let mut run = [&long[..], TWO, GOOD].concat();
-            held.hold(tally, &run);
-            for place in places {
-                for cut in [place - 1, place, place + 1, place + 2] {
-                    held.hold(tally, &run[..cut.min(run.len())]);
-                }
-            }
-            run[if raw % 2 == 0 { 2 } else { 3 }] = 0xD5;
-            held.hold(tally, &run);
-        }
-    }
+    each_continued(chance, &[TWO, GOOD].concat(), |run| held.hold(tally, run));
     // The same lengths as a frame's own, with so many bytes.
     for length in [0x7FFE, 0x7FFF, 0x8000, 0x8004, 0xFFFE] {
         for format in [0x03, 0x13, 0x05] {
-            let long = frame(length, format, 1, &any(chance, length as usize - 6));
+            let long = frame(length, format, 1, &chance.bytes(length as usize - 6));
             let run = [TWO, &long, &TWO[10..], GOOD].concat();
             held.hold(tally, &run);
             held.hold(tally, &run[..TWO.len() + long.len() - 1]);
