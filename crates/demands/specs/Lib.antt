@@ -3,3 +3,4 @@ pub mod Table
 pub mod Edges
 pub mod AllFrames
 pub mod Longer
+pub mod Limits
