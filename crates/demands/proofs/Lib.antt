@@ -15,6 +15,7 @@ pub mod AllFramesExample
 pub mod LongerRuns
 pub mod LongerLooks
 pub mod Longer
+pub mod LongerTaken
 pub mod LongerAll
 pub mod LongerExamples
 pub mod ReaderKeeps
