@@ -7,7 +7,7 @@ use mathlib.Core.Bool.{Bool, true, false}
 use mathlib.Core.Logic.{_⊎_, inl, inr}
 use mathlib.Core.List.{List, [], _∷_, _++_}
 use native.Mathlib.Decide.{decLe}
-use lib.ListN.{length, getD, take, drop, replicate, length-append, length-replicate}
+use lib.ListN.{length, getD, take, drop, replicate, length-replicate}
 use Rattle.wire.specs.Bytes.{be16, two}
 use Rattle.wire.specs.Laws.{true-false, two-back}
 use Rattle.wire.specs.Octets.{Octets, octets-append, octets-tested}

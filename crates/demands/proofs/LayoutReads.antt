@@ -4,31 +4,30 @@ use Prim.Native.Nat.{ℕ, zero, suc, _+_, _-_, _%_, _≤_, _<_}
 use native.Mathlib.Omega.{arith}
 use mathlib.Core.Path.{_≡_, refl, sym, ap, ap₂, _∙_}
 use mathlib.Core.List.{List, [], _∷_, _++_, append-assoc, append-nil}
-use lib.Dec.{ltb, eqb}
+use lib.Dec.{eqb}
 use lib.ListN.{length, getD, drop, length-append}
-use borrow.Author.Tests.{le-leb, le-ltb, eq-eqb, ne-eqb}
-use Rattle.wire.specs.Bytes.{pick, be16, two}
+use borrow.Author.Tests.{le-leb, le-ltb}
+use Rattle.wire.specs.Bytes.{be16, two}
 use Rattle.wire.specs.Laws.{pick-by, pick-yes, pick-no, two-back}
 use Rattle.wire.specs.Places.{here-first, here-length, piece-part, piece-next}
-use Rattle.answer.specs.declared.Refusal.the-variants.{Incomplete, InvalidDssType}
-use Rattle.dss_head.specs.Heads.{headAt, headWith, headBytes, lengthOf, typeAt, typeByte}
+use Rattle.answer.specs.declared.Refusal.the-variants.{InvalidDssType}
+use Rattle.dss_head.specs.Heads.{headAt, headWith, lengthOf, typeAt, typeByte}
 use Rattle.dss_head.specs.HeadLaws.{head-back, head-typed}
 use Rattle.dss_head.specs.declared.DssHeader.{DssHeader}
 use Rattle.dss_head.specs.declared.DssType.{DssType}
 use Rattle.dss_head.specs.declared.DssType.the-variants.{Request, Reply, Object, Communication}
 use Rattle.dss_head.specs.declared.HeadFound.{HeadFound}
 use Rattle.dss_head.specs.declared.HeadFound.the-variants.{Head, Refused as Refuses}
-use Rattle.dss_head.specs.declared.TypeFound.{TypeFound}
-use Rattle.dss_head.specs.declared.TypeFound.the-variants.{Is, Refused as NoType}
+use Rattle.dss_head.specs.declared.TypeFound.the-variants.{Refused as NoType}
 use Rattle.dss_frame.specs.Rules.{chunkUnder}
 use Rattle.dss_frame.specs.declared.Rules.the-variants.{Reader}
-use Rattle.dss_frame.specs.Segments.{Segment, Walk, whole, short, behind, continuation, first, continuations, frameWalk, payloadOf, endOf}
-use Rattle.dss_frame.specs.Reading.{Read, Frame, frame, refused, absorb, readHead, readWalk, readAt}
+use Rattle.dss_frame.specs.Segments.{Segment, whole, short, behind, continuation, first, continuations, frameWalk, payloadOf, endOf}
+use Rattle.dss_frame.specs.Reading.{Read, frame, readHead, readWalk, readAt}
 use Rattle.dss_laws.specs.RawLengths.{chunk-last, chunk-full, chunk-full-low}
 use Rattle.dss_laws.specs.Continuations.{continuations-short, continuations-last, continuations-full}
 use Rattle.dss_laws.specs.Framed.{Framed, single, segmentsOf, framed-walk, walk-several}
 use Rattle.dss_laws.specs.Looks.{look-nothing, absorb-finished}
-use Rattle.layouts.specs.DssLayout.{Structure, Allowed, Continued, ends, goes-on, EndsFull, Dss, one, several, FullLast, rest}
+use Rattle.layouts.specs.DssLayout.{Structure, Continued, ends, goes-on, EndsFull, Dss, one, several, FullLast, rest}
 use Rattle.demands.specs.Layouts.{ReadsLayout, WaitsBehindFull, RefusesFive}
 use Rattle.demands.proofs.FaithfulLayout.{allowed-in, told-at}
 use Rattle.demands.proofs.WrittenLayout.{headIn, head-bytes}

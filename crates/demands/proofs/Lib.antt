@@ -16,8 +16,10 @@ pub mod LongerRuns
 pub mod LongerLooks
 pub mod Longer
 pub mod LongerTaken
+pub mod LongerCalls
 pub mod LongerAll
 pub mod LongerExamples
+pub mod LongerTakenExamples
 pub mod ReaderKeeps
 pub mod SalvageKeeps
 pub mod SalvageClauses

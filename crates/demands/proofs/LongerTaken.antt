@@ -1,10 +1,9 @@
 -- When a frame may be taken while bytes still come in: once a whole frame stands behind it, and what waiting for that costs.
 use Prim.Native.Nat.{ℕ, zero, suc, _-_, _≤_}
-use native.Mathlib.Omega.{arith}
 use mathlib.Core.Path.{_≡_, refl, sym, ap, subst, _∙_}
 use mathlib.Core.Logic.{inr}
 use mathlib.Core.Bool.{Bool, true, false}
-use mathlib.Core.List.{List, [], _∷_, _++_, append-nil}
+use mathlib.Core.List.{List, [], _++_, append-nil}
 use lib.Dec.{ltb, leb, eqb}
 use lib.ListN.{length}
 use borrow.Author.Tests.{ne-eqb}
@@ -19,11 +18,11 @@ use Rattle.dss_head.specs.declared.HeadFound.{HeadFound}
 use Rattle.dss_head.specs.declared.HeadFound.the-variants.{Head, Refused as Refuses}
 use Rattle.dss_frame.specs.declared.Rules.the-variants.{Reader as AsReader, Salvage as AsSalvage}
 use Rattle.dss_frame.specs.Segments.{Segment, Walk, whole, short, dead, payloadOf, endOf, frameWalk}
-use Rattle.dss_frame.specs.Reading.{Look, finished, absorbs, refuses, look, lookAt, Read, frame, refused, Frame, follows, ownObject, startsExtended, withChained, behindFrame, absorb, absorbFuel, readHead, readWalk, readAt}
+use Rattle.dss_frame.specs.Reading.{Look, finished, absorbs, refuses, look, lookAt, Read, frame, refused, Frame, follows, ownObject, startsExtended, behindFrame, absorb, absorbFuel, readHead, readWalk, readAt}
 use Rattle.dss_reader.specs.Reader.{endFound, frameEnd, isEnd}
 use Rattle.dss_reader.specs.declared.FrameEnd.{FrameEnd}
 use Rattle.demands.specs.Demands.{Reader}
-use Rattle.demands.specs.Longer.{Settled, SettledStay, OfHead, Grown, goes-on, refused-behind, FramesGrow, Complete, WholeBehindSettles, TakenStay, Begins, WaitingLosesNothing, SalvageKeepsWaiting, Apart, EarlyStay}
+use Rattle.demands.specs.Longer.{SettledStay, OfHead, Grown, goes-on, refused-behind, FramesGrow, Complete, WholeBehindSettles, TakenStay, Begins, WaitingLosesNothing, SalvageKeepsWaiting, EarlyStay}
 use Rattle.dss_laws.specs.Looks.{absorb-finished}
 use Rattle.demands.proofs.LongerRuns.{SameBytes}
 use Rattle.demands.proofs.LongerLooks.{unsettled-short, apart-finished}

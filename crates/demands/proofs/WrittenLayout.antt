@@ -4,11 +4,11 @@ use Prim.Native.Nat.{ℕ, zero, suc, _+_, _*_, _-_, _/_, _%_, _≤_, _<_}
 use native.Mathlib.Omega.{arith}
 use native.Mathlib.Decide.{decLe}
 use mathlib.Core.Path.{_≡_, refl, sym, ap, subst, _∙_}
-use mathlib.Core.Bool.{Bool, true, false}
+use mathlib.Core.Bool.{true, false}
 use mathlib.Core.List.{List, _∷_, _++_}
-use lib.ListN.{length, getD, take, drop, length-drop, take-append-drop}
+use lib.ListN.{length, take, drop, length-drop, take-append-drop}
 use lib.Seq.{length-take-le}
-use Rattle.wire.specs.Bytes.{be16, two}
+use Rattle.wire.specs.Bytes.{two}
 use Rattle.wire.specs.Laws.{true-false}
 use Rattle.dss_head.specs.Heads.{headBytes, typeByte, flagsByte}
 use Rattle.dss_head.specs.HeadLaws.{type-most}
@@ -16,7 +16,7 @@ use Rattle.dss_head.specs.declared.DssFlags.{DssFlags}
 use Rattle.dss_head.specs.declared.DssHeader.{DssHeader}
 use Rattle.dss_head.specs.declared.DssType.{DssType}
 use Rattle.dss_head.specs.declared.DssType.the-variants.{Request, Reply, Object, Communication}
-use Rattle.dss_frame.specs.Written.{Sent, headOf, chunks, written}
+use Rattle.dss_frame.specs.Written.{Sent, chunks, written}
 use Rattle.layouts.specs.DssLayout.{Structure, Allowed, Continued, ends, goes-on, Dss, one, several, format, rest}
 use Rattle.demands.specs.Demands.{Sendable}
 use Rattle.demands.specs.Layouts.{structureOf, WritesLayout}
