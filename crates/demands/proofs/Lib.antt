@@ -7,6 +7,7 @@ pub mod Covering
 pub mod WrittenLayout
 pub mod FaithfulLayout
 pub mod LayoutReads
+pub mod LayoutExamples
 pub mod Impostors
 pub mod ExampleRun
 pub mod AllFramesBack
@@ -14,8 +15,11 @@ pub mod AllFramesExample
 pub mod LongerRuns
 pub mod LongerLooks
 pub mod Longer
+pub mod LongerTaken
+pub mod LongerCalls
 pub mod LongerAll
 pub mod LongerExamples
+pub mod LongerTakenExamples
 pub mod ReaderKeeps
 pub mod SalvageKeeps
 pub mod SalvageClauses

@@ -1,4 +1,5 @@
 pub mod Demands
+pub mod Layouts
 pub mod Table
 pub mod Edges
 pub mod AllFrames
