@@ -1,4 +1,6 @@
+pub mod Layouts
 pub mod LayoutRead
+pub mod LayoutExamples
 pub mod Listing
 pub mod Finding
 pub mod Building

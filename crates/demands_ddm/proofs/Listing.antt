@@ -17,10 +17,9 @@ use Rattle.ddm_object.specs.ObjectCalls.{worksOf, recordsOf, objectsFit, givenO
 use Rattle.ddm_object.specs.declared.DdmObject.{DdmObject}
 use Rattle.ddm_object.specs.declared.ObjectsFound.{ObjectsFound}
 use Rattle.ddm_object.specs.declared.ObjectsFound.the-variants.{Objects}
-use Rattle.ddm_laws.specs.Layout.{built-ddm}
 use Rattle.ddm_laws.specs.Lists.{joined, objectsOf, Fit, parameters-joined, objects-joined}
 use Rattle.demands_ddm.specs.Reading.{recordsBuilt, AllSay, ListsAs}
-use Rattle.demands_ddm.proofs.LayoutRead.{no-work, built-record}
+use Rattle.demands_ddm.proofs.LayoutRead.{built-no-work, built-record}
 
 count : (l : List (ℕ × List ℕ)) → length (objectsOf l) ≡ length l
 count [] = refl
@@ -41,7 +40,7 @@ rest-of (x ∷ l) g s place e =
     let r : Rest s (place + n) l = rest-of l (g .2) s (place + n) (here-next s (built (x .0) (x .1)) (joined l) place (place + n) e refl) in
     record {
       records = ap₂ (λ (o : DdmObject) (os : List DdmObject). o ∷ os) (b .0) (r .records);
-      works = ap₂ (λ (v w : List ℕ). v ++ w) (no-work (x .0) (x .1) (built (x .0) (x .1)) (built-ddm (x .0) (x .1) (g .1)) (g .0) (g .1) s (joined l) place e) (r .works);
+      works = ap₂ (λ (v w : List ℕ). v ++ w) (built-no-work (x .0) (x .1) (g .0) (g .1) s (joined l) place e) (r .works);
       say = (refl, b .1, r .say);
     }
 
