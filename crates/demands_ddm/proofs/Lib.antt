@@ -6,6 +6,11 @@ pub mod Finding
 pub mod Building
 pub mod Stripping
 pub mod Requests
+pub mod Said
+pub mod Back
+pub mod Adding
+pub mod Exports
+pub mod RequestBack
 pub mod Calls
 pub mod Examples
 pub mod RequestExample
