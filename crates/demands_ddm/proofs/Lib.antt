@@ -12,5 +12,6 @@ pub mod Adding
 pub mod Exports
 pub mod RequestBack
 pub mod Calls
+pub mod Kept
 pub mod Examples
 pub mod RequestExample
