@@ -92,15 +92,19 @@ module _ (b : DdmBuilder) (content room after : List ℕ) where
     pub build-back : (r : Laid) → Builds b content room r after → (work : List ℕ) (x : ObjectFound) (workAfter : List ℕ) → ObjectAt run at work x workAfter
         → (r ≡ Bytes (length (built cp d))) × InRoom cp d room after × ReadsAs cp d run at (headerOf d) work x workAfter
     build-back r p work x workAfter q =
-        let w = whole-of (built cp d) room after h (p .room-is ∙ pick-yes _ _ (le-leb (b .fill) (length content) inside)) in
-        (p .answers ∙ pick-yes _ _ (le-leb (b .fill) (length content) inside) ∙ pick-yes _ _ (le-leb (length (built cp d)) (length room) h),
-        in-room cp d room after f w, back-read cp d room after f w run at e work x workAfter q)
+        let w = whole-of (built cp d) room after h (p .room-is ∙ pick-yes _ _ (le-leb (b .fill) (length content) inside)) in (
+          p .answers ∙ pick-yes _ _ (le-leb (b .fill) (length content) inside) ∙ pick-yes _ _ (le-leb (length (built cp d)) (length room) h),
+          in-room cp d room after f w,
+          back-read cp d room after f w run at e work x workAfter q,
+        )
 
     pub build-back-said : (words : List ℕ) (r : ℕ) (said : List ℕ) → 8 ≤ length words → Makes b content room words r after said
         → (work words′ : List ℕ) (r′ : ℕ) (workAfter said′ : List ℕ) → 8 ≤ length words′ → ReadsObject run at work words′ r′ workAfter said′
         → AnswersLaid (length (built cp d)) words r said × InRoom cp d room after × AnswersObject cp d run (length (built cp d)) work words′ r′ workAfter said′
     build-back-said words r said k p work words′ r′ workAfter said′ k′ q =
         let w = whole-of (built cp d) room after h (p .room-is ∙ pick-yes _ _ (le-leb (b .fill) (length content) inside)) in
-        let l : madeLaid b content (length room) ≡ laidAtStart (b .fill) (length room) (length (built cp d)) = pick-yes _ _ (le-leb (b .fill) (length content) inside) in
-        (said-laid words r said k (b .fill) (length room) (length (built cp d)) h (subst (λ (x : Laid). Answered (laidWords x) words r said) l (p .answers)),
-        in-room cp d room after f w, back-said cp d room after f w run at e work words′ r′ workAfter said′ k′ q)
+        let l : madeLaid b content (length room) ≡ laidAtStart (b .fill) (length room) (length (built cp d)) = pick-yes _ _ (le-leb (b .fill) (length content) inside) in (
+          said-laid words r said k (b .fill) (length room) (length (built cp d)) h (subst (λ (x : Laid). Answered (laidWords x) words r said) l (p .answers)),
+          in-room cp d room after f w,
+          back-said cp d room after f w run at e work words′ r′ workAfter said′ k′ q,
+        )

@@ -64,6 +64,7 @@ module _ (cp : ℕ) (work words : List ℕ) (r : ℕ) (workAfter said : List ℕ
 pub strip-said : (a s m room words : List ℕ) (r : ℕ) (after said : List ℕ) → length a ≡ 32757 → Marked s m → length (a ++ m) ≤ length room → 8 ≤ length words
     → Strips (a ++ s) room words r after said → AnswersLaid (length (a ++ m)) words r said × (after ≡ (a ++ m) ++ drop (length (a ++ m)) room)
 strip-said a s m room words r after said l w h k p =
-    let u : unmarked (a ++ s) ≡ a ++ m = unmarked-marked a l w in
-    (said-laid words r said k 0 (length room) (length (a ++ m)) h (subst (λ (x : List ℕ). Answered (laidWords (laidAtStart 0 (length room) (length x))) words r said) u (p .answers)),
-    whole-of (a ++ m) room after h (p .room-is ∙ ap (laid room 0) u))
+    let u : unmarked (a ++ s) ≡ a ++ m = unmarked-marked a l w in (
+      said-laid words r said k 0 (length room) (length (a ++ m)) h (subst (λ (x : List ℕ). Answered (laidWords (laidAtStart 0 (length room) (length x))) words r said) u (p .answers)),
+      whole-of (a ++ m) room after h (p .room-is ∙ ap (laid room 0) u),
+    )

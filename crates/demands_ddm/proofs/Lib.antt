@@ -13,5 +13,6 @@ pub mod Exports
 pub mod RequestBack
 pub mod Calls
 pub mod Kept
+pub mod KeptExample
 pub mod Examples
 pub mod RequestExample

@@ -82,9 +82,10 @@ row-says : (l : List (ℕ × List ℕ)) (s : List ℕ) (place : ℕ) (rest : Lis
 unfolding RowSays AllSay recordsBuilt rowWords
 row-says [] s place rest a = tt
 row-says (x ∷ l) s place rest a =
-    let n : headerOf (x .1) + length (x .1) ≡ length (built (x .0) (x .1)) = sym (length-built (x .0) (x .1)) in
-    (record { number = refl; code-point = refl; in-run = refl; data-is = a .1; data-length = refl; takes-so-many = n },
-    row-says l s (place + length (built (x .0) (x .1))) rest (a .2))
+    let n : headerOf (x .1) + length (x .1) ≡ length (built (x .0) (x .1)) = sym (length-built (x .0) (x .1)) in (
+      record { number = refl; code-point = refl; in-run = refl; data-is = a .1; data-length = refl; takes-so-many = n },
+      row-says l s (place + length (built (x .0) (x .1))) rest (a .2),
+    )
 
 built-count : (place : ℕ) (l : List (ℕ × List ℕ)) → length (recordsBuilt place l) ≡ length l
 unfolding recordsBuilt
