@@ -7,6 +7,7 @@ pub mod Covering
 pub mod WrittenLayout
 pub mod FaithfulLayout
 pub mod LayoutReads
+pub mod LayoutCalls
 pub mod LayoutExamples
 pub mod Impostors
 pub mod ExampleRun
