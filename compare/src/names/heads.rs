@@ -3,7 +3,6 @@ use super::seen::Head;
 use super::{port, rust, Names};
 use crate::Chance;
 
-const CONSTANTS: &[&str] = &["DSS_MAGIC", "DSS_HEADER_LEN", "DSS_MAX_SEGMENT_LEN"];
 const TYPES: &[&str] = &[
     "DssType::to_byte",
     "DssType",
@@ -30,12 +29,10 @@ const SERIALIZE: &[&str] = &[
 ];
 
 pub fn compare(names: &mut Names, chance: &mut Chance, cases: u64) {
-    names.same(
-        CONSTANTS,
-        &[],
-        port::heads::constants(),
-        rust::heads::constants(),
-    );
+    let (port, rust) = (port::heads::constants(), rust::heads::constants());
+    names.same(&["DSS_MAGIC"], &[], port.0, rust.0);
+    names.same(&["DSS_HEADER_LEN"], &[], port.1, rust.1);
+    names.same(&["DSS_MAX_SEGMENT_LEN"], &[], port.2, rust.2);
     names.same(TYPES, &[], port::heads::types(), rust::heads::types());
     let none = (port::heads::none(), rust::heads::none());
     names.same(&["DssFlags::none"], &[], none.0, none.1);
