@@ -33,6 +33,11 @@ fn walk(data: &[u8]) -> (Vec<(usize, usize)>, Option<usize>) {
     }
 }
 
+/// How many bytes of data there are before the Rust goes astray.
+pub fn sound_len(data: &[u8]) -> usize {
+    walk(data).1.unwrap_or(data.len())
+}
+
 /// What the Rust comes to that goes astray at a place: it ends the list there, or goes on and ends it later, and stops where an
 /// end wraps.
 fn foretold(data: &[u8], mut at: usize) -> &'static str {
@@ -59,7 +64,7 @@ pub struct Params {
 
 pub fn parameters(tally: &mut Tally, data: &[u8]) -> Params {
     let (parts, astray) = walk(data);
-    let sound = with_data(&data[..astray.unwrap_or(data.len())]);
+    let sound = with_data(&data[..sound_len(data)]);
     let list = sound.parameters();
     if let Some(at) = astray {
         let seen = match unless_stopped(|| with_data(data).parameters()) {
@@ -70,13 +75,13 @@ pub fn parameters(tally: &mut Tally, data: &[u8]) -> Params {
             Some(same) if same == list => "the same list",
             Some(_) => "another list",
         };
-        tally.same("parameters, astray", shown(data), foretold(data, at), seen);
+        tally.own("parameters, astray", shown(data), foretold(data, at), seen);
         // It lists all before it finds one.
         let find = unless_stopped(|| with_data(data).find_param(0x2401));
         let stopped = (seen == "stopped", find.is_none());
-        tally.same("find_param, astray", shown(data), stopped.0, stopped.1);
+        tally.own("find_param, astray", shown(data), stopped.0, stopped.1);
     }
-    tally.same("parameters, how many", shown(data), parts.len(), list.len());
+    tally.own("parameters, how many", shown(data), parts.len(), list.len());
     let items = parts.into_iter().zip(list);
     let items = items.map(|((at, total), param)| Item::new(tally, data, at, param, total));
     let items = items.collect();

@@ -105,7 +105,7 @@ impl Case {
         let port = port
             .with_room(&held.room, self.fill, rust.bytes_laid())
             .with_run(&held.payload, bytes);
-        tally.same(self.call.named().0, &self.input(room), port, rust);
+        tally.answer(self.call.named().0, &self.input(room), port, rust);
     }
 }
 
