@@ -22,12 +22,10 @@ use Rattle.dss_head.specs.declared.DssType.the-variants.{Request, Reply, Object
 use Rattle.dss_frame.specs.declared.Rules.the-variants.{Reader}
 use Rattle.dss_frame.specs.Segments.{payloadOf, endOf, frameWalk, continuations, walkFuel}
 use Rattle.dss_frame.specs.Reading.{Read, Frame, frame, refused, readAt, absorb, absorbFuel, look}
-use Rattle.dss_frame.specs.Written.{Sent, headOf, chunks, chunksFuel, written}
+use Rattle.dss_frame.specs.Written.{Sent, headOf, chunks, written}
 use Rattle.dss_laws.specs.Writing.{written-single, written-several}
 use Rattle.layouts.specs.DssLayout.{Structure, Allowed, ends, Dss, one, several, EndsFull, FullLast, rest}
 use Rattle.demands.specs.Layouts.{structureOf, WritesLayout, ReadAs, ReadsLayout, WaitsBehindFull, RefusesFive, LayoutFixes, NoLayout}
-use Rattle.demands.specs.Edges.{full, answer}
-use Rattle.demands.specs.Table.{p2}
 use Rattle.demands.proofs.Impostors.{empty, sendable, frame-refused, same-frame}
 use Rattle.demands.proofs.WrittenLayout.{allowed-sent, writes-layout}
 use Rattle.demands.proofs.FaithfulLayout.{allowed-in, told-at}
@@ -150,10 +148,7 @@ two-chunks-read = let c = filled 1 (omega arith) in reads-layout _ _ (c .laid) (
 pub full-waits : readAt Reader (twoChunks (filling 32761) (filling 32765)) 0 ≡ refused (record { why = Incomplete; place = 0 })
 full-waits = let c = filled 32765 (omega arith) in waits-behind-full _ _ (c .laid) (c .full (omega (arith, filling-length 32765)))
 
--- and with a frame behind it, that frame is taken for the chunk that is waited for: one frame of 65,530 bytes, position 65,540
-pub full-swallows : answer (written (full 65526) ++ p2) (readAt Reader (written (full 65526) ++ p2) 0) ≡ 0 ∷ 65530 ∷ 65540 ∷ []
-unfolding answer full written chunks chunksFuel readAt absorb absorbFuel look payloadOf endOf frameWalk continuations walkFuel
-full-swallows = refl
+-- (with a frame behind it, that frame is taken for the chunk that is waited for: `Limits`, `swallowed`)
 
 -- ---- what is no structure of the volume
 
