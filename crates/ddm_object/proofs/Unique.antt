@@ -16,7 +16,7 @@ use denote.Ref.{RefT, at-last, gone}
 use Rattle.ddm_object.specs.Objects.{Object}
 use Rattle.ddm_object.specs.ObjectCalls.{Lists, ParsesObjects, ListsParameters}
 use Rattle.ddm_object.specs.Finding.{stepAt}
-use Rattle.ddm_object.specs.Parts.{RestAt}
+use Rattle.wire.specs.Parts.{RestAt}
 use Rattle.ddm_object.specs.declared.DdmObject.{DdmObject}
 use Rattle.ddm_object.specs.declared.ObjectFound.{ObjectFound}
 use Rattle.ddm_object.specs.declared.ObjectsFound.{ObjectsFound}

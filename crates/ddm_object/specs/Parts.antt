@@ -11,6 +11,7 @@ use lib.ListN.{length, drop, length-drop}
 use denote.Ref.{RefT}
 use Rattle.wire.specs.Bytes.{pick}
 use Rattle.wire.specs.Laws.{picked, pick-yes, pick-no}
+use Rattle.wire.specs.Parts.{startAt}
 use Rattle.answer.specs.declared.Refused.{Refused}
 use Rattle.ddm_object.specs.Objects.{Parsed, object, refused, parsed}
 use Rattle.ddm_object.specs.ObjectCalls.{inWork, workOf, objectAt, givenParsed, dataParsed}
@@ -18,10 +19,6 @@ use Rattle.ddm_object.specs.Records.{rec-in, short-refused}
 use Rattle.ddm_object.specs.Data.{Given}
 use Rattle.ddm_object.specs.declared.DdmObject.{DdmObject}
 use Rattle.ddm_object.specs.declared.ObjectFound.the-variants.{Refused as NotGiven}
-
--- where the part of a slice from an offset on starts in memory
-abbrev pub startAt : RefT (List ℕ) → ℕ → ℕ × ℕ
-startAt x a = (x .ptr .0, a + x .ptr .1)
 
 abbrev pub dataStart : RefT (List ℕ) → ℕ → RefT (List ℕ) → Parsed → ℕ × ℕ
 dataStart run place work (object o) =
@@ -34,11 +31,6 @@ dataStart run place work (refused r) = startAt run (pick (leb place (length (run
 pub record DataAt (run : RefT (List ℕ)) (place : ℕ) (work r : RefT (List ℕ)) : Type 0 where
   pub bytes-are : r .now ≡ dataParsed (run .now) place (length (work .now)) (parsed (drop place (run .now)) place)
   pub starts : r .ptr ≡ dataStart run place work (parsed (drop place (run .now)) place)
-
--- all that stands from a place on: beyond the data the empty part at its end
-pub record RestAt (d : RefT (List ℕ)) (at : ℕ) (r : RefT (List ℕ)) : Type 0 where
-  pub bytes-are : r .now ≡ drop at (d .now)
-  pub starts : r .ptr ≡ startAt d (pick (leb at (length (d .now))) at (length (d .now)))
 
 -- ---- laws
 
