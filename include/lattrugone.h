@@ -181,8 +181,8 @@ uint16_t lattrugone_next_correlation_id(uint16_t id);
 /* Each of these lays a frame around the payload into the room, from the fill mark on, in one segment or in as many as it needs.
  * Continue on error is never set. `chained` is yes for any byte but 0.
  * DONE: words[WRITER_CORRELATION] as given, words[WRITER_FILL] the fill mark behind the frame.
- * In this order: BAD_TYPE at 0 (where a type is given), OUT_OF_BOUNDS where fill is beyond room_len, NO_ROOM where the frame's
- * size is more than room_len - fill; the last two at fill. */
+ * In this order: OUT_OF_BOUNDS at fill, where it is beyond room_len; BAD_TYPE at 0 (where a type is given); NO_ROOM at fill,
+ * where the frame's size is more than room_len - fill. */
 
 /* Of flags, CHAINED and SAME_CORRELATION count; of dss_type its low four bits. */
 uint8_t lattrugone_write_dss_full(uint16_t correlation_id, size_t fill, uint8_t dss_type, uint8_t flags, const uint8_t *payload,

@@ -82,6 +82,17 @@ fn marks_beyond_their_buffer() {
 }
 
 #[test]
+fn a_mark_beyond_its_room_comes_before_no_type() {
+    let mut room = [0x11; 3];
+    for (fill, refusal) in [(4, [10, 4, 4, 3]), (3, [3, 0, 5, 0])] {
+        let full = words(|w| port::write_dss_full(1, fill, 5, 0, b"", &mut room, w));
+        let wrote = words(|w| port::write_dss(1, fill, 5, 0, b"", &mut room, w));
+        assert_eq!((&full[..4], &wrote[..4]), (&refusal[..], &refusal[..]));
+    }
+    assert_eq!(room, [0x11; 3]);
+}
+
+#[test]
 fn places_in_a_list_of_objects() {
     let run = hex("0004200D 00032412");
     let all = words(|w| port::objects(&run, &mut [], &mut [KEPT; 16], w));
