@@ -22,3 +22,7 @@ pub mod SalvageClauses
 pub mod SeveralRun
 pub mod SalvageImpostors
 pub mod ReaderClauses
+pub mod KeptMeaning
+pub mod KeptFrame
+pub mod KeptRows
+pub mod Kept
