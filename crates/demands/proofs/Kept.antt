@@ -34,7 +34,6 @@ use Rattle.dss_salvage.specs.declared.SalvageEntry.{SalvageEntry}
 use Rattle.dss_salvage.specs.declared.Salvaged.{Salvaged}
 use Rattle.dss_salvage_call.proofs.salvage as salvage
 use Rattle.gateway_writer.proofs.lattrugone_write_dss_full.Reads as lattrugone-write-dss-full
-use Rattle.gateway_reader.specs.ReaderWords.{ReadsFrame}
 use Rattle.gateway_reader.proofs.lattrugone_next_frame.Reads as lattrugone-next-frame
 use Rattle.gateway_frames.specs.FramesWords.{ReadsAllFrames}
 use Rattle.gateway_frames.proofs.lattrugone_read_all_frames.Reads as lattrugone-read-all-frames
@@ -50,54 +49,55 @@ use Rattle.demands.proofs.KeptMeaning.{behind, ReadAgain, NotReadAgain,
 use Rattle.demands.proofs.KeptFrame.{read-again, not-read-again, read-again-words, not-read-again-words}
 use Rattle.demands.proofs.KeptRows.{frames-back-words, recovers-words}
 
--- ---- Demand 2, one frame. `write_dss_full` lays a frame into a room that has place for it, from any fill mark on; then `next_frame`
--- is lent the room's bytes up to the fill mark behind the frame, and stands where the frame starts.
+-- ---- Demand 2, one frame
 
-module _ (κs κs′ : Lfts 2) (w : DssWriter) (t : DssType) (chained same : Bool) (payload room : RefT (List ℕ)) (wrote : Wrote) (laid : List ℕ) (run into : RefT (List ℕ)) (r : FrameRead) (after : List ℕ) where
-  abbrev asked : Sent
+module _ (κs κs′ : Lfts 2) (w : DssWriter) (t : DssType) (chained same : Bool) (payload room : RefT (List ℕ)) (wrote : Wrote) (laid : List ℕ) (lent into : RefT (List ℕ)) (r : FrameRead) (after : List ℕ) where
+  -- the frame that is asked for
+  abbrev pub asked : Sent
   asked = sent (w .«correlation_id») t chained same (payload .now)
 
-  abbrev Calls : Type 0
-  Calls =
-      Sendable asked
-      × (behind (w .fill) asked ≤ length (room .now))
-      × write-dss-full.Post κs (w, (t, (chained, (same, (payload, (room, tt)))))) wrote (w, (t, (chained, (same, (payload, (at-last room laid, tt))))))
-      × (run .now ≡ take (behind (w .fill) asked) laid)
-      × next-frame.Post κs′ (standsAt (w .fill), (run, (into, tt))) r (standsAt (w .fill), (run, (at-last into after, tt)))
+  -- It is written, then read: `write_dss_full` lays it into a room that has place for it, from any fill mark on; then `next_frame` is
+  -- lent the room's bytes up to the fill mark behind it, and stands where it starts.
+  pub record Calls : Type 0 where
+    pub sendable : Sendable asked
+    pub fits : behind (w .fill) asked ≤ length (room .now)
+    pub writes : write-dss-full.Post κs (w, (t, (chained, (same, (payload, (room, tt)))))) wrote (w, (t, (chained, (same, (payload, (at-last room laid, tt))))))
+    pub lent-is : lent .now ≡ take (behind (w .fill) asked) laid
+    pub reads : next-frame.Post κs′ (standsAt (w .fill), (lent, (into, tt))) r (standsAt (w .fill), (lent, (at-last into after, tt)))
 
   -- "A written frame, read alone with enough room, gives back type, flags, correlation, payload and is wholly consumed."
   pub read-back : Calls → (Unreadable asked → ⊥) → length (payload .now) ≤ length (into .now) → ReadAgain w asked wrote (into .now) r after
-  read-back c u k = read-again w asked (c .0) (room .now) laid (run .now) (into .now) wrote r after (c .1) (c .2) (c .3) (c .4) u k
+  read-back c u k = read-again w asked (c .sendable) (room .now) laid (lent .now) (into .now) wrote r after (c .fits) (c .writes) (c .lent-is) (c .reads) u k
 
   -- "With a payload of 32,761 plus one or more times 32,765 bytes, the reader says it isn't whole."
   pub not-whole : Calls → Unreadable asked → NotReadAgain w asked wrote (into .now) r after
-  not-whole c u = not-read-again w asked (c .0) (room .now) laid (run .now) (into .now) wrote r after (c .1) (c .2) (c .3) (c .4) u
+  not-whole c u = not-read-again w asked (c .sendable) (room .now) laid (lent .now) (into .now) wrote r after (c .fits) (c .writes) (c .lent-is) (c .reads) u
 
--- The same of the exported functions: a type is a byte that says it, flags are a byte.
-module _ (κs κs′ : Lfts 3) (id fill type flags : ℕ) (t : DssType) (payload room words : RefT (List ℕ)) (number : ℕ) (laid answer : List ℕ) (run into words′ : RefT (List ℕ)) (number′ : ℕ) (after answer′ : List ℕ) where
-  abbrev asked′ : Sent
-  asked′ = sent id t (bit 0x40 flags) (bit 0x10 flags) (payload .now)
+-- The same of the exported functions. A writer is its correlation and its fill mark, a type a byte that says it, flags a byte.
+module _ (κs κs′ : Lfts 3) (id fill type flags : ℕ) (t : DssType) (payload room words : RefT (List ℕ)) (number : ℕ) (laid answer : List ℕ) (lent into words′ : RefT (List ℕ)) (number′ : ℕ) (after answer′ : List ℕ) where
+  abbrev pub of-type : DssType → Sent
+  of-type x = sent id x (bit 0x40 flags) (bit 0x10 flags) (payload .now)
 
-  abbrev Calls′ : Type 0
-  Calls′ =
-      (typeAt type 0 ≡ Is t)
-      × Sendable asked′
-      × (behind fill asked′ ≤ length (room .now))
-      × (8 ≤ length (words .now))
-      × (8 ≤ length (words′ .now))
-      × lattrugone-write-dss-full.Post κs (id, (fill, (type, (flags, (payload, (room, (words, tt))))))) number (id, (fill, (type, (flags, (payload, (at-last room laid, (at-last words answer, tt)))))))
-      × (run .now ≡ take (behind fill asked′) laid)
-      × lattrugone-next-frame.Post κs′ (run, (fill, (into, (words′, tt)))) number′ (run, (fill, (at-last into after, (at-last words′ answer′, tt))))
+  pub record ExportedCalls : Type 0 where
+    pub typed : typeAt type 0 ≡ Is t
+    pub sendable : Sendable (of-type t)
+    pub fits : behind fill (of-type t) ≤ length (room .now)
+    pub eight : 8 ≤ length (words .now)
+    pub eight′ : 8 ≤ length (words′ .now)
+    pub writes : lattrugone-write-dss-full.Post κs (id, (fill, (type, (flags, (payload, (room, (words, tt))))))) number (id, (fill, (type, (flags, (payload, (at-last room laid, (at-last words answer, tt)))))))
+    pub lent-is : lent .now ≡ take (behind fill (of-type t)) laid
+    pub reads : lattrugone-next-frame.Post κs′ (lent, (fill, (into, (words′, tt)))) number′ (lent, (fill, (at-last into after, (at-last words′ answer′, tt))))
 
-  pub exported-read-back : Calls′ → (Unreadable asked′ → ⊥) → length (payload .now) ≤ length (into .now) → ReadAgainInWords asked′ fill number answer (into .now) number′ answer′ after
+  pub exported-read-back : ExportedCalls → (Unreadable (of-type t) → ⊥) → length (payload .now) ≤ length (into .now)
+      → ReadAgainInWords (of-type t) fill number answer (into .now) number′ answer′ after
   exported-read-back c u k =
-      read-again-words (typeAt type 0) t (c .0) id fill (λ (x : DssType). sent id x (bit 0x40 flags) (bit 0x10 flags) (payload .now)) refl (c .1)
-      (room .now) (words .now) laid answer (run .now) (into .now) (words′ .now) number number′ after answer′ (c .2) (c .3) (c .4) (c .5) (c .6) (c .7) u k
+      read-again-words (typeAt type 0) t (c .typed) id fill of-type refl (c .sendable)
+      (room .now) (words .now) laid answer (lent .now) (into .now) (words′ .now) number number′ after answer′ (c .fits) (c .eight) (c .eight′) (c .writes) (c .lent-is) (c .reads) u k
 
-  pub exported-not-whole : Calls′ → Unreadable asked′ → NotReadAgainInWords asked′ fill number answer (into .now) number′ answer′ after
+  pub exported-not-whole : ExportedCalls → Unreadable (of-type t) → NotReadAgainInWords (of-type t) fill number answer (into .now) number′ answer′ after
   exported-not-whole c u =
-      not-read-again-words (typeAt type 0) t (c .0) id fill (λ (x : DssType). sent id x (bit 0x40 flags) (bit 0x10 flags) (payload .now)) refl (c .1)
-      (room .now) (words .now) laid answer (run .now) (into .now) (words′ .now) number number′ after answer′ (c .2) (c .3) (c .4) (c .5) (c .6) (c .7) u
+      not-read-again-words (typeAt type 0) t (c .typed) id fill of-type refl (c .sendable)
+      (room .now) (words .now) laid answer (lent .now) (into .now) (words′ .now) number number′ after answer′ (c .fits) (c .eight) (c .eight′) (c .writes) (c .lent-is) (c .reads) u
 
 -- ---- Demand 2, all frames of a run of written frames that stand by themselves, from its first byte on, with enough room and row
 

@@ -59,9 +59,10 @@ all-in-words s room rest at (f ∷ fs) (g ∷ gs) a d =
     let q : ℕ = at + length (f .payload) in
     let d₁ : drop at room ≡ f .payload ++ (payloads fs ++ rest) = payload-at room (f .payload) (payloads fs) rest at d in
     let ih : AllInWords room q fs (map recordWords (recordsOf s q gs)) =
-    all-in-words s room rest q fs gs (a .1) (here-next room (f .payload) (payloads fs ++ rest) at q d₁ refl) in
-    ((in-words f at at (recordOf s at g) (is-frame f s at g (a .0)), here-part room (f .payload) (payloads fs ++ rest) at q d₁ (omega arith)),
-    subst (λ (m : ℕ). AllInWords room q fs (map recordWords (recordsOf s (at + m) gs))) (sym (ap length (a .0 .payload))) ih)
+    all-in-words s room rest q fs gs (a .1) (here-next room (f .payload) (payloads fs ++ rest) at q d₁ refl) in (
+      (in-words f at at (recordOf s at g) (is-frame f s at g (a .0)), here-part room (f .payload) (payloads fs ++ rest) at q d₁ (omega arith)),
+      subst (λ (m : ℕ). AllInWords room q fs (map recordWords (recordsOf s (at + m) gs))) (sym (ap length (a .0 .payload))) ih,
+    )
 
 records-long : (s : List ℕ) (at : ℕ) (gs : List Frame) → length (recordsOf s at gs) ≡ length gs
 unfolding recordsOf
@@ -125,9 +126,10 @@ items-in-words s room rest p at (i ∷ is) (e ∷ es) a d =
     let q : ℕ = at + length (dueBytes i) in
     let d₁ : drop at room ≡ dueBytes i ++ (allBytes is ++ rest) = payload-at room (dueBytes i) (allBytes is) rest at d in
     let ih : ItemsInWords room (p + length (bytesOf i)) q is (map entryWords (salvagedRow s q es)) =
-    items-in-words s room rest (p + length (bytesOf i)) q is es (a .1) (here-next room (dueBytes i) (allBytes is ++ rest) at q d₁ refl) in
-    (item-in-words s room (allBytes is ++ rest) p at i (e .read) (a .0 .read) d₁,
-    subst (λ (m : ℕ). ItemsInWords room (p + length (bytesOf i)) q is (map entryWords (salvagedRow s (at + m) es))) (sym (ap length (due-bytes s p i (e .read) (a .0 .read)))) ih)
+    items-in-words s room rest (p + length (bytesOf i)) q is es (a .1) (here-next room (dueBytes i) (allBytes is ++ rest) at q d₁ refl) in (
+      item-in-words s room (allBytes is ++ rest) p at i (e .read) (a .0 .read) d₁,
+      subst (λ (m : ℕ). ItemsInWords room (p + length (bytesOf i)) q is (map entryWords (salvagedRow s (at + m) es))) (sym (ap length (due-bytes s p i (e .read) (a .0 .read)))) ih,
+    )
 
 row-long : (s : List ℕ) (at : ℕ) (es : List Entry) → length (salvagedRow s at es) ≡ length es
 unfolding salvagedRow

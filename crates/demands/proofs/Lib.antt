@@ -26,3 +26,4 @@ pub mod KeptMeaning
 pub mod KeptFrame
 pub mod KeptRows
 pub mod Kept
+pub mod KeptExamples

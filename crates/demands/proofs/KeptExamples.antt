@@ -1,0 +1,155 @@
+-- Examples that meet what the lines of Kept ask, by computation: what each contract allows in them, byte by byte and word by word.
+use Prim.Native.Nat.{ℕ, zero, suc, _+_, _*_, _≤_, _<_}
+use native.Mathlib.Omega.{arith}
+use mathlib.Core.Path.{_≡_, refl, sym, subst}
+use mathlib.Core.Bool.{Bool, true, false}
+use mathlib.Core.List.{List, [], _∷_, _++_}
+use lib.ListN.{length, getD, take, replicate, length-replicate}
+use contract.Lifetimes.{Lfts}
+use denote.Ref.{RefT, at-last}
+use Rattle.wire.specs.Bytes.{splice, laid}
+use Rattle.wire.specs.Octets.{octets-tested}
+use Rattle.dss_head.specs.declared.DssType.the-variants.{Request}
+use Rattle.dss_frame.specs.Segments.{payloadOf, endOf, frameWalk, continuations, walkFuel}
+use Rattle.dss_frame.specs.Reading.{readAt, absorb, absorbFuel, look}
+use Rattle.dss_frame.specs.Records.{payloadsOf, recordsOf}
+use Rattle.dss_frame.specs.Frames.{framesFuel, allFrames}
+use Rattle.dss_frame.specs.Salvage.{salvaged, salvageFuel}
+use Rattle.dss_frame.specs.Written.{Sent, written, chunks, chunksFuel}
+use Rattle.dss_frame.specs.declared.DssFrame.{DssFrame}
+use Rattle.dss_frame.specs.declared.Rules.the-variants.{Reader}
+use Rattle.dss_take.specs.Take.{roomRead}
+use Rattle.dss_writer.specs.Writer.{sent, wrote}
+use Rattle.dss_writer.specs.declared.DssWriter.{DssWriter}
+use Rattle.dss_writer.specs.declared.Wrote.the-variants.{Done}
+use Rattle.dss_reader.specs.Reader.{standsAt, given}
+use Rattle.dss_reader.specs.declared.FrameRead.the-variants.{Frame as Hands}
+use Rattle.dss_salvage.specs.SalvageCall.{salvagedBytes, salvagedRow}
+use Rattle.gateway_row.specs.RowWords as row-words
+use Rattle.gateway_frames.proofs.lattrugone_read_all_frames.Reads as lattrugone-read-all-frames
+use Rattle.gateway_salvage.specs.SalvageWords.{SalvagesInWords}
+use Rattle.gateway_salvage.proofs.lattrugone_salvage.Reads as lattrugone-salvage
+use Rattle.demands.specs.Demands.{Sendable, Unreadable, run}
+use Rattle.demands.specs.AllFrames.{joined}
+use Rattle.demands.proofs.ReaderKeeps.{payloads}
+use Rattle.demands.proofs.SalvageKeeps.{allBytes}
+use Rattle.demands.proofs.AllFramesExample.{reply, object, pair, pair-alone}
+use Rattle.demands.proofs.ExampleRun.{three, three-run, three-sizes}
+use Rattle.demands.proofs.KeptMeaning.{ReadAgain, NotReadAgain, ReadAgainInWords, AllBackInWords, RecoveredInWords}
+use Rattle.demands.proofs.Kept.{Calls, read-back, not-whole, ExportedCalls, exported-read-back, exported-all-read-back, exported-salvaged-back}
+
+-- bytes or words that are lent
+abbrev lending : List ℕ → RefT (List ℕ)
+lending l = record { ptr = (0, 0); name = 0; now = l }
+
+-- ---- one frame, from the fill mark 2 on
+
+abbrev at-two : DssWriter
+at-two = record { «correlation_id» = 7; fill = 2 }
+
+-- a chained request with same correlation, of one byte; its bytes; and the room that it was laid into
+abbrev small : Sent
+small = sent 7 Request true true (0xAA ∷ [])
+
+abbrev filled : List ℕ
+filled = 9 ∷ 9 ∷ 0 ∷ 7 ∷ 0xD0 ∷ 0x51 ∷ 0 ∷ 7 ∷ 0xAA ∷ 9 ∷ 9 ∷ []
+
+small-sendable : Sendable small
+small-sendable = record { correlation = omega arith; payload = octets-tested (0xAA ∷ []) refl }
+
+abbrev handed : DssFrame
+handed = record {
+  header = record { length = 7; «dss_type» = Request; flags = record { chained = true; «continue_on_error» = false; «same_correlation» = true }; «correlation_id» = 7 };
+  «payload_at» = 0;
+  «payload_len» = 1;
+  segments = 1;
+}
+
+small-calls : (κs κs′ : Lfts 2)
+    → Calls κs κs′ at-two Request true true (lending (0xAA ∷ [])) (lending (replicate 11 9)) (Done (record { «correlation_id» = 7; fill = 9 })) filled
+    (lending (take 9 filled)) (lending (8 ∷ 8 ∷ [])) (Hands handed (standsAt 9)) (0xAA ∷ 8 ∷ [])
+unfolding written chunks chunksFuel splice laid readAt absorb absorbFuel look payloadOf endOf frameWalk continuations walkFuel
+small-calls κs κs′ =
+    record {
+      sendable = small-sendable;
+      fits = omega arith;
+      writes = record { answers = refl; room-is = refl };
+      lent-is = refl;
+      reads = record { answers = refl; room-is = refl };
+    }
+
+-- so it comes back
+pub small-back : (κs κs′ : Lfts 2) → ReadAgain at-two small (Done (record { «correlation_id» = 7; fill = 9 })) (8 ∷ 8 ∷ []) (Hands handed (standsAt 9)) (0xAA ∷ 8 ∷ [])
+small-back κs κs′ =
+    read-back κs κs′ at-two Request true true (lending (0xAA ∷ [])) (lending (replicate 11 9)) (Done (record { «correlation_id» = 7; fill = 9 })) filled
+    (lending (take 9 filled)) (lending (8 ∷ 8 ∷ [])) (Hands handed (standsAt 9)) (0xAA ∷ 8 ∷ []) (small-calls κs κs′) (λ u. omega (arith, u .size)) (omega arith)
+
+-- the exported functions: type 1, flags 50; correlation and fill mark; then position, length, format byte, correlation, payload's length
+-- and segments
+small-exported : (κs κs′ : Lfts 3)
+    → ExportedCalls κs κs′ 7 2 1 0x50 Request (lending (0xAA ∷ [])) (lending (replicate 11 9)) (lending (replicate 8 9)) 0 filled (0 ∷ 0 ∷ 7 ∷ 9 ∷ 0 ∷ 0 ∷ 0 ∷ 0 ∷ [])
+    (lending (take 9 filled)) (lending (8 ∷ 8 ∷ [])) (lending (replicate 9 9)) 0 (0xAA ∷ 8 ∷ []) (0 ∷ 9 ∷ 7 ∷ 0x51 ∷ 7 ∷ 1 ∷ 1 ∷ 0 ∷ 9 ∷ [])
+unfolding written chunks chunksFuel splice laid readAt absorb absorbFuel look payloadOf endOf frameWalk continuations walkFuel
+small-exported κs κs′ =
+    record {
+      typed = refl;
+      sendable = small-sendable;
+      fits = omega arith;
+      eight = omega arith;
+      eight′ = omega arith;
+      writes = record { answers = record { number-is = refl; words-are = refl }; room-is = refl };
+      lent-is = refl;
+      reads = record { answers = record { number-is = refl; words-are = refl }; room-is = refl };
+    }
+
+pub small-in-words : (κs κs′ : Lfts 3) → ReadAgainInWords small 2 0 (0 ∷ 0 ∷ 7 ∷ 9 ∷ 0 ∷ 0 ∷ 0 ∷ 0 ∷ []) (8 ∷ 8 ∷ []) 0 (0 ∷ 9 ∷ 7 ∷ 0x51 ∷ 7 ∷ 1 ∷ 1 ∷ 0 ∷ 9 ∷ []) (0xAA ∷ 8 ∷ [])
+small-in-words κs κs′ =
+    exported-read-back κs κs′ 7 2 1 0x50 Request (lending (0xAA ∷ [])) (lending (replicate 11 9)) (lending (replicate 8 9)) 0 filled (0 ∷ 0 ∷ 7 ∷ 9 ∷ 0 ∷ 0 ∷ 0 ∷ 0 ∷ [])
+    (lending (take 9 filled)) (lending (8 ∷ 8 ∷ [])) (lending (replicate 9 9)) 0 (0xAA ∷ 8 ∷ []) (0 ∷ 9 ∷ 7 ∷ 0x51 ∷ 7 ∷ 1 ∷ 1 ∷ 0 ∷ 9 ∷ []) (small-exported κs κs′)
+    (λ u. omega (arith, u .size)) (omega arith)
+
+-- ---- two frames, read at once, into a room of seven bytes and a row of seventeen words
+
+abbrev pair-row : List ℕ
+pair-row = 0 ∷ 0 ∷ 7 ∷ 0x42 ∷ 1 ∷ 1 ∷ 1 ∷ 0 ∷ 0 ∷ 1 ∷ 11 ∷ 0x13 ∷ 1 ∷ 5 ∷ 1 ∷ 0 ∷ 9 ∷ []
+
+abbrev pair-room : List ℕ
+pair-room = 0xAA ∷ 0 ∷ 5 ∷ 0x24 ∷ 0x1B ∷ 1 ∷ 9 ∷ []
+
+abbrev pair-words : List ℕ
+pair-words = 0 ∷ 18 ∷ 2 ∷ 6 ∷ 0 ∷ 0 ∷ 0 ∷ 0 ∷ []
+
+pair-calls : (κs : Lfts 4) → lattrugone-read-all-frames.Post κs (lending (joined written (pair false)), (0, (lending (replicate 7 9), (lending (replicate 17 9), (lending (replicate 8 9), tt)))))
+    0 (lending (joined written (pair false)), (0, (lending pair-room, (lending pair-row, (lending pair-words, tt)))))
+unfolding pair reply object joined written chunks chunksFuel splice laid allFrames framesFuel readAt absorb absorbFuel look payloadOf endOf frameWalk continuations walkFuel payloadsOf recordsOf row-words.joined
+pair-calls κs = record { answers = record { number-is = refl; words-are = refl }; room-is = refl; row-is = refl }
+
+pair-sizes : (length (payloads (pair false)) ≡ 6) × (length (pair false) ≡ 2)
+unfolding pair reply object payloads
+pair-sizes = (refl, refl)
+
+pub pair-in-words : (κs : Lfts 4) → AllBackInWords (pair false) (replicate 7 9) (replicate 17 9) 0 pair-room pair-row pair-words
+pair-in-words κs =
+    exported-all-read-back κs (lending (joined written (pair false))) (lending (replicate 7 9)) (lending (replicate 17 9)) (lending (replicate 8 9)) 0 pair-room pair-row pair-words
+    (pair false) (pair-alone false) refl (omega (arith, pair-sizes)) (omega (arith, pair-sizes)) (omega arith) (pair-calls κs)
+
+-- ---- a spoilt frame between two good ones, salvaged
+
+-- the reply; 2 at byte 7, with the byte that stands there; the object, its payload at byte 1 of the room
+abbrev three-row : List ℕ
+three-row = 0 ∷ 0 ∷ 7 ∷ 0x42 ∷ 1 ∷ 1 ∷ 1 ∷ 0 ∷ 2 ∷ 7 ∷ 0x55 ∷ 0 ∷ 0 ∷ 0 ∷ 0 ∷ 0 ∷ 0 ∷ 1 ∷ 11 ∷ 0x13 ∷ 1 ∷ 5 ∷ 1 ∷ 0 ∷ 9 ∷ []
+
+abbrev three-words : List ℕ
+three-words = 0 ∷ 0 ∷ 3 ∷ 6 ∷ 25 ∷ 0 ∷ 0 ∷ 0 ∷ []
+
+three-calls : (κs : Lfts 4) → lattrugone-salvage.Post κs (lending (run three), (lending (replicate 7 9), (lending (replicate 25 9), (lending (replicate 8 9), tt))))
+    0 (lending (run three), (lending pair-room, (lending three-row, (lending three-words, tt))))
+unfolding splice laid salvaged salvageFuel readAt absorb absorbFuel look payloadOf endOf frameWalk continuations walkFuel salvagedBytes salvagedRow row-words.joined
+three-calls κs =
+    subst (λ (s : List ℕ). SalvagesInWords s (replicate 7 9) (replicate 25 9) (replicate 8 9) 0 pair-room three-row three-words) (sym three-run)
+    (record { answers = record { number-is = refl; words-are = refl }; room-is = refl; row-is = refl })
+
+pub three-in-words : (κs : Lfts 4) → RecoveredInWords three (replicate 7 9) (replicate 25 9) 0 pair-room three-row three-words
+three-in-words κs =
+    exported-salvaged-back κs (lending (run three)) (lending (replicate 7 9)) (lending (replicate 25 9)) (lending (replicate 8 9)) 0 pair-room three-row three-words
+    three refl (omega (arith, three-sizes)) (omega (arith, three-sizes)) (omega arith) (three-calls κs)
