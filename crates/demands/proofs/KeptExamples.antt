@@ -1,7 +1,7 @@
 -- Examples that meet what the lines of Kept ask, by computation: what each contract allows in them, byte by byte and word by word.
 use Prim.Native.Nat.{ℕ, zero, suc, _+_, _*_, _≤_, _<_}
 use native.Mathlib.Omega.{arith}
-use mathlib.Core.Path.{_≡_, refl, sym, subst}
+use mathlib.Core.Path.{_≡_, refl, sym, ap, subst}
 use mathlib.Core.Bool.{Bool, true, false}
 use mathlib.Core.List.{List, [], _∷_, _++_}
 use lib.ListN.{length, getD, take, replicate, length-replicate}
@@ -11,7 +11,7 @@ use Rattle.wire.specs.Bytes.{splice, laid}
 use Rattle.wire.specs.Octets.{octets-tested}
 use Rattle.dss_head.specs.declared.DssType.the-variants.{Request}
 use Rattle.dss_frame.specs.Segments.{payloadOf, endOf, frameWalk, continuations, walkFuel}
-use Rattle.dss_frame.specs.Reading.{readAt, absorb, absorbFuel, look}
+use Rattle.dss_frame.specs.Reading.{Read, refused, readAt, absorb, absorbFuel, look}
 use Rattle.dss_frame.specs.Records.{payloadsOf, recordsOf}
 use Rattle.dss_frame.specs.Frames.{framesFuel, allFrames}
 use Rattle.dss_frame.specs.Salvage.{salvaged, salvageFuel}
@@ -19,13 +19,17 @@ use Rattle.dss_frame.specs.Written.{Sent, written, chunks, chunksFuel}
 use Rattle.dss_frame.specs.declared.DssFrame.{DssFrame}
 use Rattle.dss_frame.specs.declared.Rules.the-variants.{Reader}
 use Rattle.dss_take.specs.Take.{roomRead}
-use Rattle.dss_writer.specs.Writer.{sent, wrote}
+use Rattle.dss_writer.specs.Writer.{fresh, sent, wrote}
 use Rattle.dss_writer.specs.declared.DssWriter.{DssWriter}
+use Rattle.dss_writer.specs.declared.Wrote.{Wrote}
 use Rattle.dss_writer.specs.declared.Wrote.the-variants.{Done}
 use Rattle.dss_reader.specs.Reader.{standsAt, given}
-use Rattle.dss_reader.specs.declared.FrameRead.the-variants.{Frame as Hands}
+use Rattle.dss_reader.specs.declared.FrameRead.the-variants.{Frame as Hands, Refused as NotRead}
 use Rattle.dss_salvage.specs.SalvageCall.{salvagedBytes, salvagedRow}
+use Rattle.gateway_words.specs.Words.{Answered}
 use Rattle.gateway_row.specs.RowWords as row-words
+use Rattle.gateway_writer.specs.WriterWords.{wroteWords}
+use Rattle.gateway_reader.specs.ReaderWords.{frameWords}
 use Rattle.gateway_frames.proofs.lattrugone_read_all_frames.Reads as lattrugone-read-all-frames
 use Rattle.gateway_salvage.specs.SalvageWords.{SalvagesInWords}
 use Rattle.gateway_salvage.proofs.lattrugone_salvage.Reads as lattrugone-salvage
@@ -34,9 +38,11 @@ use Rattle.demands.specs.AllFrames.{joined}
 use Rattle.demands.proofs.ReaderKeeps.{payloads}
 use Rattle.demands.proofs.SalvageKeeps.{allBytes}
 use Rattle.demands.proofs.AllFramesExample.{reply, object, pair, pair-alone}
+use Rattle.demands.proofs.ReadBack as ReadBack
+use Rattle.demands.proofs.SeveralRun.{alike}
 use Rattle.demands.proofs.ExampleRun.{three, three-run, three-sizes}
-use Rattle.demands.proofs.KeptMeaning.{ReadAgain, NotReadAgain, ReadAgainInWords, AllBackInWords, RecoveredInWords}
-use Rattle.demands.proofs.Kept.{Calls, read-back, not-whole, ExportedCalls, exported-read-back, exported-all-read-back, exported-salvaged-back}
+use Rattle.demands.proofs.KeptMeaning.{notWhole, ReadAgain, NotReadAgain, ReadAgainInWords, NotReadAgainInWords, AllBackInWords, RecoveredInWords}
+use Rattle.demands.proofs.Kept.{Calls, read-back, not-whole, ExportedCalls, exported-read-back, exported-not-whole, exported-all-read-back, exported-salvaged-back}
 
 -- bytes or words that are lent
 abbrev lending : List ℕ → RefT (List ℕ)
@@ -107,6 +113,92 @@ small-in-words κs κs′ =
     exported-read-back κs κs′ 7 2 1 0x50 Request (lending (0xAA ∷ [])) (lending (replicate 11 9)) (lending (replicate 8 9)) 0 filled (0 ∷ 0 ∷ 7 ∷ 9 ∷ 0 ∷ 0 ∷ 0 ∷ 0 ∷ [])
     (lending (take 9 filled)) (lending (8 ∷ 8 ∷ [])) (lending (replicate 9 9)) 0 (0xAA ∷ 8 ∷ []) (0 ∷ 9 ∷ 7 ∷ 0x51 ∷ 7 ∷ 1 ∷ 1 ∷ 0 ∷ 9 ∷ []) (small-exported κs κs′)
     (λ u. omega (arith, u .size)) (omega arith)
+
+-- ---- a frame of 65,526 bytes, which is 32,761 plus 32,765
+
+abbrev big : List ℕ
+big = replicate 65526 0xC1
+
+-- the room that it fills
+abbrev zeros : List ℕ
+zeros = replicate 65534 0
+
+abbrev full : Sent
+full = sent 7 Request false false big
+
+full-sendable : Sendable full
+full-sendable = record { correlation = omega arith; payload = alike 65526 }
+
+full-unreadable : Unreadable full
+full-unreadable = record { times = 0; size = refl }
+
+full-size : length (written full) ≡ 65534
+unfolding written chunks chunksFuel
+full-size = refl
+
+full-laid : laid zeros 0 (written full) ≡ written full
+unfolding written chunks chunksFuel splice laid
+full-laid = refl
+
+full-lent : written full ≡ take (0 + length (written full)) (written full)
+unfolding written chunks chunksFuel
+full-lent = refl
+
+full-read : readAt Reader (written full) 0 ≡ refused (notWhole 0)
+full-read = ReadBack.not-whole full full-sendable full-unreadable
+
+full-wrote : wrote (fresh 7) (length zeros) (length (written full)) ≡ Done (record { «correlation_id» = 7; fill = 65534 })
+unfolding written chunks chunksFuel
+full-wrote = refl
+
+full-calls : (κs κs′ : Lfts 2)
+    → Calls κs κs′ (fresh 7) Request false false (lending big) (lending zeros) (Done (record { «correlation_id» = 7; fill = 65534 })) (written full)
+    (lending (written full)) (lending []) (NotRead (notWhole 0) (standsAt 0)) []
+full-calls κs κs′ =
+    record {
+      sendable = full-sendable;
+      fits = omega (arith, full-size, length-replicate {A = ℕ} 65534 0);
+      writes = record { answers = sym full-wrote; room-is = sym full-laid };
+      lent-is = full-lent;
+      reads = record { answers = sym (ap (given (written full) 0 0) full-read); room-is = sym (ap (roomRead (written full) []) full-read) };
+    }
+
+pub full-not-whole : (κs κs′ : Lfts 2) → NotReadAgain (fresh 7) full (Done (record { «correlation_id» = 7; fill = 65534 })) [] (NotRead (notWhole 0) (standsAt 0)) []
+full-not-whole κs κs′ =
+    not-whole κs κs′ (fresh 7) Request false false (lending big) (lending zeros) (Done (record { «correlation_id» = 7; fill = 65534 })) (written full)
+    (lending (written full)) (lending []) (NotRead (notWhole 0) (standsAt 0)) [] (full-calls κs κs′) full-unreadable
+
+-- the exported functions: the writer answers 0, and the reader 1
+full-exported : (κs κs′ : Lfts 3)
+    → ExportedCalls κs κs′ 7 0 1 0 Request (lending big) (lending zeros) (lending (replicate 8 9)) 0 (written full) (0 ∷ 0 ∷ 7 ∷ 65534 ∷ 0 ∷ 0 ∷ 0 ∷ 0 ∷ [])
+    (lending (written full)) (lending []) (lending (replicate 8 9)) 1 [] (1 ∷ replicate 7 0)
+unfolding splice laid
+full-exported κs κs′ =
+    record {
+      typed = refl;
+      sendable = full-sendable;
+      fits = omega (arith, full-size, length-replicate {A = ℕ} 65534 0);
+      eight = omega arith;
+      eight′ = omega arith;
+      writes = record {
+        answers =
+            subst (λ (x : Wrote). Answered (wroteWords x) (replicate 8 9) 0 (0 ∷ 0 ∷ 7 ∷ 65534 ∷ 0 ∷ 0 ∷ 0 ∷ 0 ∷ [])) (sym full-wrote)
+            (record { number-is = refl; words-are = refl });
+        room-is = sym full-laid;
+      };
+      lent-is = full-lent;
+      reads = record {
+        answers =
+            subst (λ (x : Read). Answered (frameWords (given (written full) 0 0 x)) (replicate 8 9) 1 (1 ∷ replicate 7 0)) (sym full-read)
+            (record { number-is = refl; words-are = refl });
+        room-is = sym (ap (roomRead (written full) []) full-read);
+      };
+    }
+
+pub full-in-words : (κs κs′ : Lfts 3) → NotReadAgainInWords full 0 0 (0 ∷ 0 ∷ 7 ∷ 65534 ∷ 0 ∷ 0 ∷ 0 ∷ 0 ∷ []) [] 1 (1 ∷ replicate 7 0) []
+full-in-words κs κs′ =
+    exported-not-whole κs κs′ 7 0 1 0 Request (lending big) (lending zeros) (lending (replicate 8 9)) 0 (written full) (0 ∷ 0 ∷ 7 ∷ 65534 ∷ 0 ∷ 0 ∷ 0 ∷ 0 ∷ [])
+    (lending (written full)) (lending []) (lending (replicate 8 9)) 1 [] (1 ∷ replicate 7 0) (full-exported κs κs′) full-unreadable
 
 -- ---- two frames, read at once, into a room of seven bytes and a row of seventeen words
 
