@@ -1,4 +1,4 @@
--- The port has it: the user's demands 2 and 3, a line for each, over the contracts of the functions themselves. A contract is named, and
+-- The port has it: the user's demands, over the contracts of the functions themselves. A contract is named, and
 -- not written again: `f.Post` is what f ensures of its arguments, its answer, and its arguments as they then are; `at-last room l` is
 -- the room that then holds l. The exported functions are those that C and Rust call. What the lines say holds stands in KeptMeaning;
 -- examples that meet what they ask, in KeptExamples.
@@ -14,8 +14,10 @@ use prog.Routine.{Routine}
 use prog.Wp.{Heap}
 use ghost.Atoms.{Atoms}
 use contract.Lifetimes.{Lfts}
-use contract.Monad.{Fun, fact}
+use contract.Monad.{Fun, fact, fact-mono}
 use denote.Ref.{RefT, at-last}
+use Rattle.answer.specs.Numbers.{numberOf}
+use Rattle.answer.specs.declared.Refused.{Refused}
 use Rattle.dss_head.specs.Heads.{typeAt, bit}
 use Rattle.dss_head.specs.declared.DssType.{DssType}
 use Rattle.dss_head.specs.declared.TypeFound.the-variants.{Is}
@@ -24,15 +26,21 @@ use Rattle.dss_frame.specs.declared.DssFrame.{DssFrame}
 use Rattle.dss_writer.specs.Writer.{sent}
 use Rattle.dss_writer.specs.declared.DssWriter.{DssWriter}
 use Rattle.dss_writer.specs.declared.Wrote.{Wrote}
+use Rattle.dss_writer.specs.declared.Wrote.the-variants.{Refused as NotWritten}
 use Rattle.dss_writer.proofs.DssWriter.write_dss_full.Reads as write-dss-full
 use Rattle.dss_reader.specs.Reader.{standsAt}
+use Rattle.dss_reader.specs.declared.DssReader.{DssReader}
 use Rattle.dss_reader.specs.declared.FrameRead.{FrameRead}
+use Rattle.dss_reader.specs.declared.FrameRead.the-variants.{Refused as NotRead}
 use Rattle.dss_reader.specs.declared.FramesRead.{FramesRead}
+use Rattle.dss_reader.specs.declared.FramesRead.the-variants.{Refused as NoneRead}
 use Rattle.dss_reader.proofs.DssReader.next_frame.Reads as next-frame
 use Rattle.dss_reader.proofs.DssReader.read_all_frames as read-all-frames
 use Rattle.dss_salvage.specs.declared.SalvageEntry.{SalvageEntry}
 use Rattle.dss_salvage.specs.declared.Salvaged.{Salvaged}
+use Rattle.dss_salvage.specs.declared.Salvaged.the-variants.{Refused as NotSalvaged}
 use Rattle.dss_salvage_call.proofs.salvage as salvage
+use Rattle.gateway_writer.specs.WriterWords.{writerOf, frameOf}
 use Rattle.gateway_writer.proofs.lattrugone_write_dss_full.Reads as lattrugone-write-dss-full
 use Rattle.gateway_reader.proofs.lattrugone_next_frame.Reads as lattrugone-next-frame
 use Rattle.gateway_frames.specs.FramesWords.{ReadsAllFrames}
@@ -44,10 +52,62 @@ use Rattle.demands.specs.AllFrames.{AllAlone, joined}
 use Rattle.demands.proofs.ReaderKeeps.{payloads, AllBack}
 use Rattle.demands.proofs.ReaderClauses.{read-all-frames-back}
 use Rattle.demands.proofs.SalvageKeeps.{allBytes, Recovered}
-use Rattle.demands.proofs.SalvageClauses.{salvage-recovers}
-use Rattle.demands.proofs.KeptMeaning.{behind, ReadAgain, NotReadAgain, ReadAgainInWords, NotReadAgainInWords, AllBackInWords, RecoveredInWords}
+use Rattle.demands.proofs.SalvageClauses.{salvage-recovers, salvage-refuses}
+use Rattle.demands.proofs.KeptMeaning.{behind, ReadAgain, NotReadAgain, ReadAgainInWords, NotReadAgainInWords, AllBackInWords, RecoveredInWords, RefusedInWords}
 use Rattle.demands.proofs.KeptFrame.{read-again, not-read-again, read-again-words, not-read-again-words}
 use Rattle.demands.proofs.KeptRows.{frames-back-words, recovers-words}
+use Rattle.demands.proofs.KeptRefusals.{writes-kept, reads-kept, all-kept, sends-kept, frame-kept, frames-kept, salvage-kept}
+
+-- ---- Demand 1: "A refusal has a number and a place, and leaves all lent buffers unchanged; where it leaves the reading position is fixed
+-- too." That a call ends and does nothing undefined is what the toolchain proves of every function.
+
+module _ (κs : Lfts 2) (room : RefT (List ℕ)) (why : Refused) (after : List ℕ) where
+  pub write-refused : (w : DssWriter) (t : DssType) (chained same : Bool) (payload : RefT (List ℕ))
+      → write-dss-full.Post κs (w, (t, (chained, (same, (payload, (room, tt)))))) (NotWritten why) (w, (t, (chained, (same, (payload, (at-last room after, tt))))))
+      → after ≡ room .now
+  write-refused w t chained same payload p = writes-kept w (sent (w .«correlation_id») t chained same (payload .now)) (room .now) why after p
+
+  -- the reader is left at the refusal's place
+  pub read-refused : (reader left : DssReader) (s : RefT (List ℕ))
+      → next-frame.Post κs (reader, (s, (room, tt))) (NotRead why left) (reader, (s, (at-last room after, tt)))
+      → (after ≡ room .now) × (left ≡ standsAt (why .place))
+  read-refused reader left s p = reads-kept (s .now) (reader .position) (room .now) why left after p
+
+-- A function over a row of records has no `Post`. Its own clause is named, and in any model of the logic it entails the fact.
+module _ {M : Type 1} (𝓤 : URA M) (H : Heap 𝓤) (A : Atoms 𝓤) (mem : Memory → SProp 𝓤) (routines : Routine → Fun 𝓤) (κs : Lfts 3) (s room : RefT (List ℕ)) (why : Refused) (room-after : List ℕ) where
+  pub all-read-refused : (row : RefT (List DssFrame)) (reader left : DssReader) (row-after : List DssFrame)
+      → ent 𝓤 (read-all-frames.clauses 𝓤 H A mem routines κs (reader, (s, (room, (row, tt)))) .ensures tt (NoneRead why left) (reader, (s, (at-last room room-after, (at-last row row-after, tt)))))
+      (fact 𝓤 ((room-after ≡ room .now) × (row-after ≡ row .now) × (left ≡ standsAt (why .place))))
+  all-read-refused row reader left row-after = fact-mono 𝓤 _ _ (λ p. all-kept (s .now) (reader .position) (room .now) why left (row .now) room-after row-after p)
+
+  -- "the one refusal of the call is 9"
+  pub salvage-refused : (row : RefT (List SalvageEntry)) (row-after : List SalvageEntry)
+      → ent 𝓤 (salvage.clauses 𝓤 H A mem routines κs (s, (room, (row, tt))) .ensures tt (NotSalvaged why) (s, (at-last room room-after, (at-last row row-after, tt))))
+      (fact 𝓤 ((numberOf (why .why) ≡ 9) × (why .place ≡ 0) × (room-after ≡ room .now) × (row-after ≡ row .now)))
+  salvage-refused row row-after = salvage-refuses 𝓤 H A mem routines κs s room row room-after row-after why
+
+-- The exported functions, lent eight words: any number but 0 is a refusal's.
+module _ (words : RefT (List ℕ)) (number : ℕ) (answer : List ℕ) (eight : 8 ≤ length (words .now)) (other : number ≡ 0 → ⊥) (room : RefT (List ℕ)) (room-after : List ℕ) where
+  pub exported-write-refused : (κs : Lfts 3) (id fill type flags : ℕ) (payload : RefT (List ℕ))
+      → lattrugone-write-dss-full.Post κs (id, (fill, (type, (flags, (payload, (room, (words, tt))))))) number (id, (fill, (type, (flags, (payload, (at-last room room-after, (at-last words answer, tt)))))))
+      → RefusedInWords number answer × (room-after ≡ room .now)
+  exported-write-refused κs id fill type flags payload p =
+      sends-kept (words .now) number answer eight other (typeAt type 0) (writerOf id fill) (frameOf id (bit 0x40 flags) (bit 0x10 flags) (payload .now)) (room .now) room-after p
+
+  pub exported-read-refused : (κs : Lfts 3) (s : RefT (List ℕ)) (at : ℕ)
+      → lattrugone-next-frame.Post κs (s, (at, (room, (words, tt)))) number (s, (at, (at-last room room-after, (at-last words answer, tt))))
+      → RefusedInWords number answer × (room-after ≡ room .now)
+  exported-read-refused κs s at p = frame-kept (words .now) number answer eight other (s .now) at (room .now) room-after p
+
+  module _ (κs : Lfts 4) (s row : RefT (List ℕ)) (row-after : List ℕ) where
+    pub exported-all-read-refused : (at : ℕ)
+        → lattrugone-read-all-frames.Post κs (s, (at, (room, (row, (words, tt))))) number (s, (at, (at-last room room-after, (at-last row row-after, (at-last words answer, tt)))))
+        → RefusedInWords number answer × (room-after ≡ room .now) × (row-after ≡ row .now)
+    exported-all-read-refused at p = frames-kept (words .now) number answer eight other (s .now) at (room .now) (row .now) room-after row-after p
+
+    pub exported-salvage-refused : lattrugone-salvage.Post κs (s, (room, (row, (words, tt)))) number (s, (at-last room room-after, (at-last row row-after, (at-last words answer, tt))))
+        → RefusedInWords number answer × (room-after ≡ room .now) × (row-after ≡ row .now)
+    exported-salvage-refused p = salvage-kept (words .now) number answer eight other (s .now) (room .now) (row .now) room-after row-after p
 
 -- ---- Demand 2, one frame
 
@@ -101,8 +161,6 @@ module _ (κs κs′ : Lfts 3) (id fill type flags : ℕ) (t : DssType) (payload
 
 -- ---- Demand 2, all frames of a run of written frames that stand by themselves, from its first byte on, with enough room and row
 
--- `read_all_frames`: a function over a row of records has no `Post`. Its own clause is named, and in any model of the logic it entails
--- the fact.
 pub all-read-back : {M : Type 1} (𝓤 : URA M) (H : Heap 𝓤) (A : Atoms 𝓤) (mem : Memory → SProp 𝓤) (routines : Routine → Fun 𝓤) (κs : Lfts 3) (run room : RefT (List ℕ)) (row : RefT (List DssFrame)) (r : FramesRead) (room-after : List ℕ) (row-after : List DssFrame)
     → (fs : List Sent) → AllAlone fs → run .now ≡ joined written fs → length (payloads fs) ≤ length (room .now) → length fs ≤ length (row .now)
     → ent 𝓤 (read-all-frames.clauses 𝓤 H A mem routines κs (standsAt 0, (run, (room, (row, tt)))) .ensures tt r (standsAt 0, (run, (at-last room room-after, (at-last row row-after, tt)))))

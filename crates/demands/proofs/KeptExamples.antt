@@ -1,14 +1,16 @@
 -- Examples that meet what the lines of Kept ask, by computation: what each contract allows in them, byte by byte and word by word.
-use Prim.Native.Nat.{ℕ, zero, suc, _+_, _*_, _≤_, _<_}
+use Prim.Native.Nat.{ℕ, _+_, _≤_}
 use native.Mathlib.Omega.{arith}
-use mathlib.Core.Path.{_≡_, refl, sym, ap, subst}
-use mathlib.Core.Bool.{Bool, true, false}
-use mathlib.Core.List.{List, [], _∷_, _++_}
-use lib.ListN.{length, getD, take, replicate, length-replicate}
+use mathlib.Core.Path.{_≡_, refl, sym, ap, ap₂, subst, _∙_}
+use mathlib.Core.Bool.{true, false}
+use mathlib.Core.List.{List, [], _∷_}
+use lib.ListN.{length, take, replicate, length-replicate}
 use contract.Lifetimes.{Lfts}
-use denote.Ref.{RefT, at-last}
+use denote.Ref.{RefT}
 use Rattle.wire.specs.Bytes.{splice, laid}
 use Rattle.wire.specs.Octets.{octets-tested}
+use Rattle.answer.specs.Rooms.{noRoom}
+use Rattle.answer.specs.declared.Refusal.the-variants.{InvalidMagic}
 use Rattle.dss_head.specs.declared.DssType.the-variants.{Request}
 use Rattle.dss_frame.specs.Segments.{payloadOf, endOf, frameWalk, continuations, walkFuel}
 use Rattle.dss_frame.specs.Reading.{Read, refused, readAt, absorb, absorbFuel, look}
@@ -23,8 +25,10 @@ use Rattle.dss_writer.specs.Writer.{fresh, sent, wrote}
 use Rattle.dss_writer.specs.declared.DssWriter.{DssWriter}
 use Rattle.dss_writer.specs.declared.Wrote.{Wrote}
 use Rattle.dss_writer.specs.declared.Wrote.the-variants.{Done}
-use Rattle.dss_reader.specs.Reader.{standsAt, given}
+use Rattle.dss_reader.specs.Reader.{standsAt, given, ReadAllFrames}
 use Rattle.dss_reader.specs.declared.FrameRead.the-variants.{Frame as Hands, Refused as NotRead}
+use Rattle.dss_reader.specs.declared.FramesRead.{FramesRead}
+use Rattle.dss_reader.specs.declared.FramesRead.the-variants.{Frames}
 use Rattle.dss_salvage.specs.SalvageCall.{salvagedBytes, salvagedRow}
 use Rattle.gateway_words.specs.Words.{Answered}
 use Rattle.gateway_row.specs.RowWords as row-words
@@ -35,14 +39,14 @@ use Rattle.gateway_salvage.specs.SalvageWords.{SalvagesInWords}
 use Rattle.gateway_salvage.proofs.lattrugone_salvage.Reads as lattrugone-salvage
 use Rattle.demands.specs.Demands.{Sendable, Unreadable, run}
 use Rattle.demands.specs.AllFrames.{joined}
-use Rattle.demands.proofs.ReaderKeeps.{payloads}
-use Rattle.demands.proofs.SalvageKeeps.{allBytes}
+use Rattle.demands.specs.Table.{p8}
+use Rattle.demands.proofs.ReaderKeeps.{payloads, frames-back}
 use Rattle.demands.proofs.AllFramesExample.{reply, object, pair, pair-alone}
 use Rattle.demands.proofs.ReadBack as ReadBack
 use Rattle.demands.proofs.SeveralRun.{alike}
 use Rattle.demands.proofs.ExampleRun.{three, three-run, three-sizes}
-use Rattle.demands.proofs.KeptMeaning.{notWhole, ReadAgain, NotReadAgain, ReadAgainInWords, NotReadAgainInWords, AllBackInWords, RecoveredInWords}
-use Rattle.demands.proofs.Kept.{Calls, read-back, not-whole, ExportedCalls, exported-read-back, exported-not-whole, exported-all-read-back, exported-salvaged-back}
+use Rattle.demands.proofs.KeptMeaning.{notWhole, ReadAgain, NotReadAgain, ReadAgainInWords, NotReadAgainInWords, AllBackInWords, RecoveredInWords, RefusedInWords}
+use Rattle.demands.proofs.Kept.{write-refused, read-refused, Calls, read-back, not-whole, ExportedCalls, exported-read-back, exported-not-whole, exported-all-read-back, exported-salvaged-back, exported-write-refused, exported-read-refused, exported-all-read-refused, exported-salvage-refused}
 
 -- bytes or words that are lent
 abbrev lending : List ℕ → RefT (List ℕ)
@@ -245,3 +249,52 @@ pub three-in-words : (κs : Lfts 4) → RecoveredInWords three (replicate 7 9) (
 three-in-words κs =
     exported-salvaged-back κs (lending (run three)) (lending (replicate 7 9)) (lending (replicate 25 9)) (lending (replicate 8 9)) 0 pair-room three-row three-words
     three refl (omega (arith, three-sizes)) (omega (arith, three-sizes)) (omega arith) (three-calls κs)
+
+-- with any room of six bytes and any row of two records, whatever the contract of `read_all_frames` allows on the two frames answers so
+pub pair-answered : (room : List ℕ) (row : List DssFrame) → 6 ≤ length room → 2 ≤ length row → (r : FramesRead) (room-after : List ℕ) (row-after : List DssFrame)
+    → ReadAllFrames (joined written (pair false)) 0 room row r room-after row-after → r ≡ Frames 2 6 (standsAt (length (joined written (pair false))))
+pair-answered room row h k r room-after row-after p =
+    frames-back (pair false) (pair-alone false) room row (omega (arith, pair-sizes)) (omega (arith, pair-sizes)) r room-after row-after p .is
+    ∙ ap₂ (λ (n m : ℕ). Frames n m (standsAt (length (joined written (pair false))))) (pair-sizes .1) (pair-sizes .0)
+
+-- ---- refusals
+
+abbrev nines : RefT (List ℕ)
+nines = lending (replicate 8 9)
+
+-- a room of six bytes hasn't place for seven: 9 at the fill mark, and seven bytes are needed
+pub small-refused : (κs : Lfts 3) → RefusedInWords 9 (9 ∷ 0 ∷ 7 ∷ replicate 5 0) × (_≡_ {A = List ℕ} (replicate 6 9) (replicate 6 9))
+unfolding written chunks chunksFuel splice laid
+small-refused κs =
+    exported-write-refused nines 9 (9 ∷ 0 ∷ 7 ∷ replicate 5 0) (omega arith) (λ e. omega arith) (lending (replicate 6 9)) (replicate 6 9) κs 7 0 1 0x50 (lending (0xAA ∷ []))
+    (record { answers = record { number-is = refl; words-are = refl }; room-is = refl })
+
+pub small-not-written : (κs : Lfts 2) → _≡_ {A = List ℕ} (replicate 6 9) (replicate 6 9)
+unfolding written chunks chunksFuel splice laid
+small-not-written κs =
+    write-refused κs (lending (replicate 6 9)) (noRoom 0 7 0) (replicate 6 9) (fresh 7) Request true true (lending (0xAA ∷ [])) (record { answers = refl; room-is = refl })
+
+-- P8: the first frame is lost to the head behind it, 2 at 6
+pub lost-refused : (κs : Lfts 3) → RefusedInWords 2 (2 ∷ 6 ∷ replicate 6 0) × (_≡_ {A = List ℕ} (replicate 3 9) (replicate 3 9))
+unfolding splice laid readAt absorb absorbFuel look payloadOf endOf frameWalk continuations walkFuel
+lost-refused κs =
+    exported-read-refused nines 2 (2 ∷ 6 ∷ replicate 6 0) (omega arith) (λ e. omega arith) (lending (replicate 3 9)) (replicate 3 9) κs (lending p8) 0
+    (record { answers = record { number-is = refl; words-are = refl }; room-is = refl })
+
+pub lost-not-read : (κs : Lfts 2) → (_≡_ {A = List ℕ} (replicate 3 9) (replicate 3 9)) × (standsAt 6 ≡ standsAt 6)
+unfolding splice laid readAt absorb absorbFuel look payloadOf endOf frameWalk continuations walkFuel
+lost-not-read κs =
+    read-refused κs (lending (replicate 3 9)) (record { why = InvalidMagic 0; place = 6 }) (replicate 3 9) (standsAt 0) (standsAt 6) (lending p8) (record { answers = refl; room-is = refl })
+
+pub all-lost-refused : (κs : Lfts 4) → RefusedInWords 2 (2 ∷ 6 ∷ replicate 6 0) × (_≡_ {A = List ℕ} (replicate 3 9) (replicate 3 9)) × (_≡_ {A = List ℕ} (replicate 16 9) (replicate 16 9))
+unfolding splice laid allFrames framesFuel readAt absorb absorbFuel look payloadOf endOf frameWalk continuations walkFuel
+all-lost-refused κs =
+    exported-all-read-refused nines 2 (2 ∷ 6 ∷ replicate 6 0) (omega arith) (λ e. omega arith) (lending (replicate 3 9)) (replicate 3 9) κs (lending p8) (lending (replicate 16 9)) (replicate 16 9) 0
+    (record { answers = record { number-is = refl; words-are = refl }; room-is = refl; row-is = refl })
+
+-- salvage has two entries for it, and a row of fifteen words has place for one: 9, and two records are needed
+pub short-refused : (κs : Lfts 4) → RefusedInWords 9 (9 ∷ 0 ∷ 0 ∷ 2 ∷ replicate 4 0) × (_≡_ {A = List ℕ} (replicate 3 9) (replicate 3 9)) × (_≡_ {A = List ℕ} (replicate 15 9) (replicate 15 9))
+unfolding splice laid salvaged salvageFuel readAt absorb absorbFuel look payloadOf endOf frameWalk continuations walkFuel salvagedBytes salvagedRow row-words.joined
+short-refused κs =
+    exported-salvage-refused nines 9 (9 ∷ 0 ∷ 0 ∷ 2 ∷ replicate 4 0) (omega arith) (λ e. omega arith) (lending (replicate 3 9)) (replicate 3 9) κs (lending p8) (lending (replicate 15 9)) (replicate 15 9)
+    (record { answers = record { number-is = refl; words-are = refl }; room-is = refl; row-is = refl })

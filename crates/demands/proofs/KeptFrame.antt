@@ -3,7 +3,7 @@ use Prim.Native.Nat.{ℕ, _+_, _-_, _≤_}
 use native.Mathlib.Omega.{arith}
 use mathlib.Core.Path.{_≡_, refl, sym, ap, subst, _∙_}
 use mathlib.Core.List.{List, [], _++_, append-nil}
-use lib.ListN.{length, getD, take, drop}
+use lib.ListN.{length, take, drop}
 use lib.Seq.{length-take-le, take-at, drop-at}
 use borrow.Author.Tests.{le-leb}
 use Rattle.wire.specs.Bytes.{splice, laid}
@@ -12,7 +12,6 @@ use Rattle.wire.specs.Places.{here-length}
 use Rattle.wire.specs.Splice.{splice-tail, splice-written, laid-fits}
 use Rattle.answer.specs.Rooms.{roomFor}
 use Rattle.answer.specs.declared.RoomFor.the-variants.{Enough}
-use Rattle.dss_head.specs.Heads.{typeAt, flagsOf}
 use Rattle.dss_head.specs.declared.DssType.{DssType}
 use Rattle.dss_head.specs.declared.TypeFound.{TypeFound}
 use Rattle.dss_head.specs.declared.TypeFound.the-variants.{Is}
@@ -29,10 +28,9 @@ use Rattle.dss_take.specs.Take.{roomRead}
 use Rattle.dss_writer.specs.Writer.{wroteBy, wrote, Writes}
 use Rattle.dss_writer.specs.declared.DssWriter.{DssWriter}
 use Rattle.dss_writer.specs.declared.Wrote.{Wrote}
-use Rattle.dss_writer.specs.declared.Wrote.the-variants.{Done}
 use Rattle.dss_reader.specs.Reader.{standsAt, given, NextFrame}
 use Rattle.dss_reader.specs.declared.FrameRead.{FrameRead}
-use Rattle.dss_reader.specs.declared.FrameRead.the-variants.{Frame as Hands, Refused as NotRead}
+use Rattle.dss_reader.specs.declared.FrameRead.the-variants.{Frame as Hands}
 use Rattle.gateway_words.specs.Words.{refusalWords, doneWords, Answered}
 use Rattle.gateway_row.specs.RowWords.{frameAt}
 use Rattle.gateway_row.specs.RecordBack.{format-says}
@@ -40,7 +38,7 @@ use Rattle.gateway_writer.specs.WriterWords.{writerOf, wroteWords, wroteTyped, 
 use Rattle.gateway_reader.specs.ReaderWords.{frameWords, ReadsFrame}
 use Rattle.demands.specs.Demands.{Sendable, Unreadable, Gives}
 use Rattle.demands.proofs.WrittenFrames.{framed-six, sentAt, read-written, gives-written}
-use Rattle.demands.proofs.KeptMeaning.{flagsSent, IsFrame, InWords, behind, Written, ReadAgain, notWhole, NotReadAgain, ReadAgainInWords, NotReadAgainInWords}
+use Rattle.demands.proofs.KeptMeaning.{IsFrame, InWords, behind, Written, ReadAgain, notWhole, NotReadAgain, ReadAgainInWords, NotReadAgainInWords}
 
 -- ---- a frame that is handed out
 

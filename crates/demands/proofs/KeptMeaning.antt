@@ -5,6 +5,7 @@ use mathlib.Core.Bool.{false}
 use mathlib.Core.List.{List, [], _∷_}
 use lib.ListN.{length, getD, take, drop}
 use Rattle.wire.specs.Bytes.{part, splice}
+use Rattle.answer.specs.Numbers.{numberOf}
 use Rattle.answer.specs.declared.Refusal.the-variants.{Incomplete}
 use Rattle.answer.specs.declared.Refused.{Refused}
 use Rattle.dss_head.specs.Heads.{typeAt, flagsOf}
@@ -138,3 +139,11 @@ pub record RecoveredInWords (items : List (Item written)) (room row : List ℕ) 
   pub room-is : room-after ≡ splice room 0 (allBytes items)
   pub row-says : ItemsInWords room-after 0 0 items (eights (length items) row-after)
   pub row-rest : drop (8 * length items) row-after ≡ drop (8 * length items) row
+
+-- ---- a refusal, in words
+
+-- "A refusal has a number and a place": its number is returned, and the words say number, place and values
+pub record RefusedInWords (number : ℕ) (words : List ℕ) : Type 0 where
+  pub why : Refused
+  pub number-is : number ≡ numberOf (why .why)
+  pub words-say : take 8 words ≡ refusalWords why

@@ -15,18 +15,15 @@ use Rattle.answer.specs.declared.Refused.{Refused}
 use Rattle.dss_frame.specs.Segments.{payloadOf}
 use Rattle.dss_frame.specs.Reading.{Frame, Read, frame, refused}
 use Rattle.dss_frame.specs.Records.{recordOf, recordsOf, payloadsOf}
-use Rattle.dss_frame.specs.Frames.{frames, allFrames}
+use Rattle.dss_frame.specs.Frames.{allFrames}
 use Rattle.dss_frame.specs.Salvage.{Entry, salvaged}
 use Rattle.dss_frame.specs.Written.{Sent, written}
 use Rattle.dss_frame.specs.declared.DssFrame.{DssFrame}
 use Rattle.dss_reader.specs.Reader.{standsAt, framesFit, givenAll, roomAll}
-use Rattle.dss_reader.specs.declared.FramesRead.{FramesRead}
 use Rattle.dss_reader.specs.declared.FramesRead.the-variants.{Frames}
 use Rattle.dss_salvage.specs.SalvageCall.{entryOf, salvagedBytes, salvagedRow, entriesFit, given}
 use Rattle.dss_salvage.specs.SalvageCall as call
 use Rattle.dss_salvage.specs.declared.SalvageEntry.{SalvageEntry}
-use Rattle.dss_salvage.specs.declared.Salvaged.{Salvaged}
-use Rattle.dss_salvage.specs.declared.Salvaged.the-variants.{Done}
 use Rattle.gateway_words.specs.Words.{refusalWords, doneWords, Answered}
 use Rattle.gateway_row.specs.RowWords.{recordWords, places}
 use Rattle.gateway_row.specs.RowWords as row-words
@@ -40,7 +37,7 @@ use Rattle.demands.proofs.AllFramesBack.{reads-all}
 use Rattle.demands.proofs.Salvaging.{salvages}
 use Rattle.demands.proofs.ReaderKeeps.{payloads, given-payloads}
 use Rattle.demands.proofs.SalvageKeeps.{dueBytes, allBytes, due-bytes, all-bytes}
-use Rattle.demands.proofs.KeptMeaning.{PayloadAt, AllInWords, AllBackInWords, ItemInWords, ItemsInWords, RecoveredInWords}
+use Rattle.demands.proofs.KeptMeaning.{AllInWords, AllBackInWords, ItemInWords, ItemsInWords, RecoveredInWords}
 use Rattle.demands.proofs.KeptFrame.{is-frame, in-words, answer-says}
 
 -- a payload that stands at a place of the room, and what stands behind it

@@ -27,3 +27,4 @@ pub mod KeptFrame
 pub mod KeptRows
 pub mod Kept
 pub mod KeptExamples
+pub mod KeptRefusals
