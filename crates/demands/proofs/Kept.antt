@@ -1,7 +1,7 @@
--- The port has it: the user's demands, over the contracts of the functions themselves. A contract is named, and
--- not written again: `f.Post` is what f ensures of its arguments, its answer, and its arguments as they then are; `at-last room l` is
--- the room that then holds l. The exported functions are those that C and Rust call. What the lines say holds stands in KeptMeaning;
--- examples that meet what they ask, in KeptExamples.
+-- The port has it: the user's demands, over the contracts of the functions themselves, of the calls in Rattle and of those that are
+-- exported to C and Rust. A contract is named, and not written again: `f.Post` is what f ensures of its arguments, its answer, and its
+-- arguments as they then are; `at-last room l` is the room that then holds l. What the lines say holds stands in KeptMeaning, in
+-- ReaderKeeps (`AllBack`) and in SalvageKeeps (`Recovered`); examples that meet what they ask, in KeptExamples and SeveralRun.
 use Prim.Native.Nat.{ℕ, _*_, _≤_}
 use mathlib.Core.Path.{_≡_, refl, subst}
 use mathlib.Core.Bool.{Bool}
@@ -86,28 +86,28 @@ module _ {M : Type 1} (𝓤 : URA M) (H : Heap 𝓤) (A : Atoms 𝓤) (mem : Mem
       (fact 𝓤 ((numberOf (why .why) ≡ 9) × (why .place ≡ 0) × (room-after ≡ room .now) × (row-after ≡ row .now)))
   salvage-refused row row-after = salvage-refuses 𝓤 H A mem routines κs s room row room-after row-after why
 
--- The exported functions, lent eight words: any number but 0 is a refusal's.
-module _ (words : RefT (List ℕ)) (number : ℕ) (answer : List ℕ) (eight : 8 ≤ length (words .now)) (other : number ≡ 0 → ⊥) (room : RefT (List ℕ)) (room-after : List ℕ) where
+-- The exported functions: any number but 0 is a refusal's. Its place is also the position that it leaves.
+module _ (words : RefT (List ℕ)) (number : ℕ) (answer : List ℕ) (other : number ≡ 0 → ⊥) (room : RefT (List ℕ)) (room-after : List ℕ) where
   pub exported-write-refused : (κs : Lfts 3) (id fill type flags : ℕ) (payload : RefT (List ℕ))
       → lattrugone-write-dss-full.Post κs (id, (fill, (type, (flags, (payload, (room, (words, tt))))))) number (id, (fill, (type, (flags, (payload, (at-last room room-after, (at-last words answer, tt)))))))
-      → RefusedInWords number answer × (room-after ≡ room .now)
+      → RefusedInWords (words .now) number answer × (room-after ≡ room .now)
   exported-write-refused κs id fill type flags payload p =
-      sends-kept (words .now) number answer eight other (typeAt type 0) (writerOf id fill) (frameOf id (bit 0x40 flags) (bit 0x10 flags) (payload .now)) (room .now) room-after p
+      sends-kept (words .now) number answer other (typeAt type 0) (writerOf id fill) (frameOf id (bit 0x40 flags) (bit 0x10 flags) (payload .now)) (room .now) room-after p
 
   pub exported-read-refused : (κs : Lfts 3) (s : RefT (List ℕ)) (at : ℕ)
       → lattrugone-next-frame.Post κs (s, (at, (room, (words, tt)))) number (s, (at, (at-last room room-after, (at-last words answer, tt))))
-      → RefusedInWords number answer × (room-after ≡ room .now)
-  exported-read-refused κs s at p = frame-kept (words .now) number answer eight other (s .now) at (room .now) room-after p
+      → RefusedInWords (words .now) number answer × (room-after ≡ room .now)
+  exported-read-refused κs s at p = frame-kept (words .now) number answer other (s .now) at (room .now) room-after p
 
   module _ (κs : Lfts 4) (s row : RefT (List ℕ)) (row-after : List ℕ) where
     pub exported-all-read-refused : (at : ℕ)
         → lattrugone-read-all-frames.Post κs (s, (at, (room, (row, (words, tt))))) number (s, (at, (at-last room room-after, (at-last row row-after, (at-last words answer, tt)))))
-        → RefusedInWords number answer × (room-after ≡ room .now) × (row-after ≡ row .now)
-    exported-all-read-refused at p = frames-kept (words .now) number answer eight other (s .now) at (room .now) (row .now) room-after row-after p
+        → RefusedInWords (words .now) number answer × (room-after ≡ room .now) × (row-after ≡ row .now)
+    exported-all-read-refused at p = frames-kept (words .now) number answer other (s .now) at (room .now) (row .now) room-after row-after p
 
     pub exported-salvage-refused : lattrugone-salvage.Post κs (s, (room, (row, (words, tt)))) number (s, (at-last room room-after, (at-last row row-after, (at-last words answer, tt))))
-        → RefusedInWords number answer × (room-after ≡ room .now) × (row-after ≡ row .now)
-    exported-salvage-refused p = salvage-kept (words .now) number answer eight other (s .now) (room .now) (row .now) room-after row-after p
+        → RefusedInWords (words .now) number answer × (room-after ≡ room .now) × (row-after ≡ row .now)
+    exported-salvage-refused p = salvage-kept (words .now) number answer other (s .now) (room .now) (row .now) room-after row-after p
 
 -- ---- Demand 2, one frame
 

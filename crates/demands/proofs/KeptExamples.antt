@@ -263,10 +263,10 @@ abbrev nines : RefT (List ℕ)
 nines = lending (replicate 8 9)
 
 -- a room of six bytes hasn't place for seven: 9 at the fill mark, and seven bytes are needed
-pub small-refused : (κs : Lfts 3) → RefusedInWords 9 (9 ∷ 0 ∷ 7 ∷ replicate 5 0) × (_≡_ {A = List ℕ} (replicate 6 9) (replicate 6 9))
+pub small-refused : (κs : Lfts 3) → RefusedInWords (replicate 8 9) 9 (9 ∷ 0 ∷ 7 ∷ replicate 5 0) × (_≡_ {A = List ℕ} (replicate 6 9) (replicate 6 9))
 unfolding written chunks chunksFuel splice laid
 small-refused κs =
-    exported-write-refused nines 9 (9 ∷ 0 ∷ 7 ∷ replicate 5 0) (omega arith) (λ e. omega arith) (lending (replicate 6 9)) (replicate 6 9) κs 7 0 1 0x50 (lending (0xAA ∷ []))
+    exported-write-refused nines 9 (9 ∷ 0 ∷ 7 ∷ replicate 5 0) (λ e. omega arith) (lending (replicate 6 9)) (replicate 6 9) κs 7 0 1 0x50 (lending (0xAA ∷ []))
     (record { answers = record { number-is = refl; words-are = refl }; room-is = refl })
 
 pub small-not-written : (κs : Lfts 2) → _≡_ {A = List ℕ} (replicate 6 9) (replicate 6 9)
@@ -275,10 +275,10 @@ small-not-written κs =
     write-refused κs (lending (replicate 6 9)) (noRoom 0 7 0) (replicate 6 9) (fresh 7) Request true true (lending (0xAA ∷ [])) (record { answers = refl; room-is = refl })
 
 -- P8: the first frame is lost to the head behind it, 2 at 6
-pub lost-refused : (κs : Lfts 3) → RefusedInWords 2 (2 ∷ 6 ∷ replicate 6 0) × (_≡_ {A = List ℕ} (replicate 3 9) (replicate 3 9))
+pub lost-refused : (κs : Lfts 3) → RefusedInWords (replicate 8 9) 2 (2 ∷ 6 ∷ replicate 6 0) × (_≡_ {A = List ℕ} (replicate 3 9) (replicate 3 9))
 unfolding splice laid readAt absorb absorbFuel look payloadOf endOf frameWalk continuations walkFuel
 lost-refused κs =
-    exported-read-refused nines 2 (2 ∷ 6 ∷ replicate 6 0) (omega arith) (λ e. omega arith) (lending (replicate 3 9)) (replicate 3 9) κs (lending p8) 0
+    exported-read-refused nines 2 (2 ∷ 6 ∷ replicate 6 0) (λ e. omega arith) (lending (replicate 3 9)) (replicate 3 9) κs (lending p8) 0
     (record { answers = record { number-is = refl; words-are = refl }; room-is = refl })
 
 pub lost-not-read : (κs : Lfts 2) → (_≡_ {A = List ℕ} (replicate 3 9) (replicate 3 9)) × (standsAt 6 ≡ standsAt 6)
@@ -286,15 +286,15 @@ unfolding splice laid readAt absorb absorbFuel look payloadOf endOf frameWalk co
 lost-not-read κs =
     read-refused κs (lending (replicate 3 9)) (record { why = InvalidMagic 0; place = 6 }) (replicate 3 9) (standsAt 0) (standsAt 6) (lending p8) (record { answers = refl; room-is = refl })
 
-pub all-lost-refused : (κs : Lfts 4) → RefusedInWords 2 (2 ∷ 6 ∷ replicate 6 0) × (_≡_ {A = List ℕ} (replicate 3 9) (replicate 3 9)) × (_≡_ {A = List ℕ} (replicate 16 9) (replicate 16 9))
+pub all-lost-refused : (κs : Lfts 4) → RefusedInWords (replicate 8 9) 2 (2 ∷ 6 ∷ replicate 6 0) × (_≡_ {A = List ℕ} (replicate 3 9) (replicate 3 9)) × (_≡_ {A = List ℕ} (replicate 16 9) (replicate 16 9))
 unfolding splice laid allFrames framesFuel readAt absorb absorbFuel look payloadOf endOf frameWalk continuations walkFuel
 all-lost-refused κs =
-    exported-all-read-refused nines 2 (2 ∷ 6 ∷ replicate 6 0) (omega arith) (λ e. omega arith) (lending (replicate 3 9)) (replicate 3 9) κs (lending p8) (lending (replicate 16 9)) (replicate 16 9) 0
+    exported-all-read-refused nines 2 (2 ∷ 6 ∷ replicate 6 0) (λ e. omega arith) (lending (replicate 3 9)) (replicate 3 9) κs (lending p8) (lending (replicate 16 9)) (replicate 16 9) 0
     (record { answers = record { number-is = refl; words-are = refl }; room-is = refl; row-is = refl })
 
 -- salvage has two entries for it, and a row of fifteen words has place for one: 9, and two records are needed
-pub short-refused : (κs : Lfts 4) → RefusedInWords 9 (9 ∷ 0 ∷ 0 ∷ 2 ∷ replicate 4 0) × (_≡_ {A = List ℕ} (replicate 3 9) (replicate 3 9)) × (_≡_ {A = List ℕ} (replicate 15 9) (replicate 15 9))
+pub short-refused : (κs : Lfts 4) → RefusedInWords (replicate 8 9) 9 (9 ∷ 0 ∷ 0 ∷ 2 ∷ replicate 4 0) × (_≡_ {A = List ℕ} (replicate 3 9) (replicate 3 9)) × (_≡_ {A = List ℕ} (replicate 15 9) (replicate 15 9))
 unfolding splice laid salvaged salvageFuel readAt absorb absorbFuel look payloadOf endOf frameWalk continuations walkFuel salvagedBytes salvagedRow row-words.joined
 short-refused κs =
-    exported-salvage-refused nines 9 (9 ∷ 0 ∷ 0 ∷ 2 ∷ replicate 4 0) (omega arith) (λ e. omega arith) (lending (replicate 3 9)) (replicate 3 9) κs (lending p8) (lending (replicate 15 9)) (replicate 15 9)
+    exported-salvage-refused nines 9 (9 ∷ 0 ∷ 0 ∷ 2 ∷ replicate 4 0) (λ e. omega arith) (lending (replicate 3 9)) (replicate 3 9) κs (lending p8) (lending (replicate 15 9)) (replicate 15 9)
     (record { answers = record { number-is = refl; words-are = refl }; room-is = refl; row-is = refl })

@@ -1,5 +1,5 @@
 -- What the lines of Kept say holds after a call: in Rattle, of a record; for a caller in C or Rust, of the words that were lent.
-use Prim.Native.Nat.{ℕ, _+_, _*_}
+use Prim.Native.Nat.{ℕ, _+_, _*_, _≤_, _<_}
 use mathlib.Core.Path.{_≡_}
 use mathlib.Core.Bool.{false}
 use mathlib.Core.List.{List, [], _∷_}
@@ -142,8 +142,10 @@ pub record RecoveredInWords (items : List (Item written)) (room row : List ℕ) 
 
 -- ---- a refusal, in words
 
--- "A refusal has a number and a place": its number is returned, and the words say number, place and values
-pub record RefusedInWords (number : ℕ) (words : List ℕ) : Type 0 where
+-- "A refusal has a number and a place": its number is returned; where eight words were lent they say number, place and values, else
+-- they are as they were
+pub record RefusedInWords (words : List ℕ) (number : ℕ) (answer : List ℕ) : Type 0 where
   pub why : Refused
   pub number-is : number ≡ numberOf (why .why)
-  pub words-say : take 8 words ≡ refusalWords why
+  pub words-say : 8 ≤ length words → take 8 answer ≡ refusalWords why
+  pub words-kept : length words < 8 → answer ≡ words

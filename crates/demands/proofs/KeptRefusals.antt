@@ -139,44 +139,44 @@ typed-kept (NoType r) w f room y e = refl
 
 -- ---- in words: another number than 0 is a refusal's
 
-module _ (words : List ℕ) (n : ℕ) (answer : List ℕ) (h : 8 ≤ length words) (nz : n ≡ 0 → ⊥) where
-  of-words : (y : Refused) → Answered (refusalWords y) words n answer → RefusedInWords n answer
-  of-words y a = record { why = y; number-is = a .number-is; words-say = answer-says refl h a }
+module _ (words : List ℕ) (n : ℕ) (answer : List ℕ) (nz : n ≡ 0 → ⊥) where
+  of-words : (y : Refused) → Answered (refusalWords y) words n answer → RefusedInWords words n answer
+  of-words y a = record { why = y; number-is = a .number-is; words-say = λ h. answer-says refl h a; words-kept = λ h. a .words-are ∙ laid-kept words 0 (refusalWords y) (omega arith) }
 
-  of-wrote : (x : Wrote) → Answered (wroteWords x) words n answer → record { y : Refused; is : x ≡ NotWritten y; said : RefusedInWords n answer }
+  of-wrote : (x : Wrote) → Answered (wroteWords x) words n answer → record { y : Refused; is : x ≡ NotWritten y; said : RefusedInWords words n answer }
   of-wrote (Done w) a = absurd (nz (a .number-is))
   of-wrote (NotWritten y) a = record { y = y; is = refl; said = of-words y a }
 
-  of-read : (x : FrameRead) → Answered (frameWords x) words n answer → record { y : Refused; d : DssReader; is : x ≡ NotRead y d; said : RefusedInWords n answer }
+  of-read : (x : FrameRead) → Answered (frameWords x) words n answer → record { y : Refused; d : DssReader; is : x ≡ NotRead y d; said : RefusedInWords words n answer }
   of-read (Hands f d) a = absurd (nz (a .number-is))
   of-read (NotRead y d) a = record { y = y; d = d; is = refl; said = of-words y a }
 
-  of-frames : (x : FramesRead) → Answered (framesWords x) words n answer → record { y : Refused; d : DssReader; is : x ≡ NoneRead y d; said : RefusedInWords n answer }
+  of-frames : (x : FramesRead) → Answered (framesWords x) words n answer → record { y : Refused; d : DssReader; is : x ≡ NoneRead y d; said : RefusedInWords words n answer }
   of-frames (Frames c b d) a = absurd (nz (a .number-is))
   of-frames (NoneRead y d) a = record { y = y; d = d; is = refl; said = of-words y a }
 
-  of-salvaged : (x : Salvaged) → Answered (salvagedWords x) words n answer → record { y : Refused; is : x ≡ NotSalvaged y; said : RefusedInWords n answer }
+  of-salvaged : (x : Salvaged) → Answered (salvagedWords x) words n answer → record { y : Refused; is : x ≡ NotSalvaged y; said : RefusedInWords words n answer }
   of-salvaged (Gathered c b t) a = absurd (nz (a .number-is))
   of-salvaged (NotSalvaged y) a = record { y = y; is = refl; said = of-words y a }
 
-  pub sends-kept : (found : TypeFound) (w : DssWriter) (f : DssType → Sent) (room after : List ℕ) → Sends found w f room words n after answer → RefusedInWords n answer × (after ≡ room)
+  pub sends-kept : (found : TypeFound) (w : DssWriter) (f : DssType → Sent) (room after : List ℕ) → Sends found w f room words n after answer → RefusedInWords words n answer × (after ≡ room)
   sends-kept found w f room after p =
       let x = of-wrote (wroteTyped found w f (length room)) (p .answers) in
       (x .said, p .room-is ∙ typed-kept found w f room (x .y) (x .is))
 
-  pub frame-kept : (s : List ℕ) (p : ℕ) (room after : List ℕ) → ReadsFrame s p room words n after answer → RefusedInWords n answer × (after ≡ room)
+  pub frame-kept : (s : List ℕ) (p : ℕ) (room after : List ℕ) → ReadsFrame s p room words n after answer → RefusedInWords words n answer × (after ≡ room)
   frame-kept s p room after q =
       let x = of-read (given s p (length room) (readAt Reader s p)) (q .answers) in
       (x .said, q .room-is ∙ kept-reading s p room (readAt Reader s p) (x .y) (x .d) (sym (x .is)) .0)
 
   pub frames-kept : (s : List ℕ) (p : ℕ) (room row room-after row-after : List ℕ) → ReadsAllFrames s p room row words n room-after row-after answer
-      → RefusedInWords n answer × (room-after ≡ room) × (row-after ≡ row)
+      → RefusedInWords words n answer × (room-after ≡ room) × (row-after ≡ row)
   frames-kept s p room row room-after row-after q =
       let x = of-frames (givenAll s p (length room) (places row) (allFrames s p)) (q .answers) in
       (x .said, q .room-is ∙ room-kept s p room (x .y) (x .d) (places row) (allFrames s p) (sym (x .is)), q .row-is ∙ row-kept s p room (x .y) (x .d) row (sym (x .is)))
 
   pub salvage-kept : (s room row room-after row-after : List ℕ) → SalvagesInWords s room row words n room-after row-after answer
-      → RefusedInWords n answer × (room-after ≡ room) × (row-after ≡ row)
+      → RefusedInWords words n answer × (room-after ≡ room) × (row-after ≡ row)
   salvage-kept s room row room-after row-after q =
       let x = of-salvaged (call.given s (length room) (places row) (salvaged s)) (q .answers) in
       let t = not-fit s (length room) (places row) (x .y) (sym (x .is)) in
