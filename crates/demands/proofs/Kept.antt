@@ -1,7 +1,8 @@
 -- The port has it: the user's demands, over the contracts of the functions themselves, of the calls in Rattle and of those that are
 -- exported to C and Rust. A contract is named, and not written again: `f.Post` is what f ensures of its arguments, its answer, and its
 -- arguments as they then are; `at-last room l` is the room that then holds l. What the lines say holds stands in KeptMeaning, in
--- ReaderKeeps (`AllBack`) and in SalvageKeeps (`Recovered`); examples that meet what they ask, in KeptExamples and SeveralRun.
+-- ReaderKeeps (`AllBack`) and in SalvageKeeps (`Recovered`); examples that meet what they ask, in KeptExamples and SeveralRun. Of the
+-- calls that write, the widest is taken: the contracts of the writer's others are the same record, at a type and flags of their own.
 use Prim.Native.Nat.{ℕ, _*_, _≤_}
 use mathlib.Core.Path.{_≡_, refl, subst}
 use mathlib.Core.Bool.{Bool}
@@ -133,7 +134,8 @@ module _ (κs κs′ : Lfts 2) (w : DssWriter) (t : DssType) (chained same : Boo
   pub not-whole : Calls → Unreadable asked → NotReadAgain w asked wrote (into .now) r after
   not-whole c u = not-read-again w asked (c .sendable) (room .now) laid (lent .now) (into .now) wrote r after (c .fits) (c .writes) (c .lent-is) (c .reads) u
 
--- The same of the exported functions. A writer is its correlation and its fill mark, a type a byte that says it, flags a byte.
+-- The same of the exported functions, lent eight words each. A writer is its correlation and its fill mark, a type a byte that says it,
+-- flags a byte.
 module _ (κs κs′ : Lfts 3) (id fill type flags : ℕ) (t : DssType) (payload room words : RefT (List ℕ)) (number : ℕ) (laid answer : List ℕ) (lent into words′ : RefT (List ℕ)) (number′ : ℕ) (after answer′ : List ℕ) where
   abbrev pub of-type : DssType → Sent
   of-type x = sent id x (bit 0x40 flags) (bit 0x10 flags) (payload .now)
