@@ -27,3 +27,9 @@ pub mod SalvageClauses
 pub mod SeveralRun
 pub mod SalvageImpostors
 pub mod ReaderClauses
+pub mod KeptMeaning
+pub mod KeptFrame
+pub mod KeptRows
+pub mod Kept
+pub mod KeptExamples
+pub mod KeptRefusals
