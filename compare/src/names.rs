@@ -3,6 +3,7 @@
 //! is compared. At the end every public name of the two modules' text has been compared, but for the string forms.
 //!
 //! Where the Rust stops or loses bits, the port is held to document 01.
+mod added;
 mod builder;
 mod captures;
 mod handed;
@@ -60,11 +61,15 @@ macro_rules! side {
 side!(rust = db2_proto);
 side!(port = lattrugone);
 
+/// So many random inputs are tried at least: among so many each name occurs.
+const FEWEST: u64 = 400;
+
 pub fn compare(tally: &mut Tally, chance: &mut Chance, cases: u64) {
     let mut names = Names {
         tally,
         times: HashMap::new(),
     };
+    let cases = cases.max(FEWEST);
     heads::compare(&mut names, chance, cases);
     writer::compare(&mut names, chance, cases);
     reader::compare(&mut names, chance, cases);
@@ -72,6 +77,7 @@ pub fn compare(tally: &mut Tally, chance: &mut Chance, cases: u64) {
     builder::compare(&mut names, chance, cases);
     captures::compare(&mut names, Path::new(CAPTURES));
     handed::compare(&mut names, chance, cases);
+    added::compare(&mut names, chance, cases);
     source::all_compared(&names.times);
 }
 

@@ -1,7 +1,7 @@
 //! The salvage reading, which the Rust doesn't have: the port's against a model written from document 01 alone, on damaged runs of
 //! every kind; and demand 3 directly.
 mod demand;
-mod model;
+pub mod model;
 pub mod record;
 mod runs;
 

@@ -36,7 +36,7 @@ pub fn all_compared(times: &HashMap<&'static str, u64>) {
         std::process::exit(1);
     }
     println!(
-        "compare: {} public names of db2-proto's dss and ddm, all compared; {} string forms left out",
+        "compare: {} public names of db2-proto's dss and ddm, with the errors they give, all compared; {} string forms left out",
         public.len(),
         STRING_FORMS.len()
     );

@@ -57,7 +57,7 @@ fn one(names: &mut Names, call: Call, id: u16, payload: &[u8]) {
     a.write(call, payload);
     b.write(call, payload);
     names.same(
-        &[written(call), "DssWriter::data"],
+        &[written(call), "DssWriter::finish"],
         &input,
         a.finish(),
         b.finish(),

@@ -1,12 +1,10 @@
 //! The salvage reading's answers for the list, by the model: the Rust has none.
+use super::runs::GOOD;
 use super::{listed, model};
 use crate::reader::record::{rooms, runs};
 use crate::reader::PAPER;
 use crate::record::{Asked, List, FEW_WORDS};
 use crate::Chance;
-
-/// A frame that is good, behind a damaged one.
-const GOOD: &[u8] = b"\x00\x06\xD0\x02\x00\x07";
 
 /// The reader's runs, and document 01's cases of frames each with a good frame behind it, with bytes changed.
 pub fn record(list: &mut List, chance: &mut Chance) {
