@@ -2,14 +2,16 @@
 -- and the room. The calls' contracts are named, and not written again.
 use Prim.Native.Nat.{ℕ, _+_, _-_, _≤_}
 use native.Mathlib.Omega.{arith}
-use mathlib.Core.Path.{_≡_, refl, sym, ap, subst}
+use mathlib.Core.Path.{_≡_, refl, sym, ap, subst, _∙_}
 use mathlib.Core.List.{List, [], _∷_, _++_}
+use borrow.Author.Tests.{le-leb}
 use lib.Dec.{leb}
 use lib.ListN.{length, getD}
 use contract.Lifetimes.{Lfts}
 use denote.Ref.{RefT, at-last}
-use Rattle.wire.specs.Bytes.{two, last}
-use Rattle.wire.specs.Laws.{picked}
+use Rattle.wire.specs.Bytes.{two, last, splice}
+use Rattle.wire.specs.Laws.{picked, pick-yes}
+use Rattle.wire.specs.Splice.{laid-fits}
 use Rattle.answer.specs.Numbers.{numberOf}
 use Rattle.answer.specs.Rooms.{roomFor}
 use Rattle.answer.specs.declared.Refused.{Refused}
@@ -18,6 +20,7 @@ use Rattle.answer.specs.declared.RoomFor.the-variants.{Enough, Refused as Refus
 use Rattle.ddm_builder.specs.Built.{built}
 use Rattle.ddm_builder.specs.Builder.{fresh, addedBy, Adds, parameter16, parameter32}
 use Rattle.ddm_builder.specs.declared.DdmBuilder.{DdmBuilder}
+use Rattle.ddm_builder.specs.declared.Added.{Added as AddedOr}
 use Rattle.ddm_builder.specs.declared.Added.the-variants.{Done}
 use Rattle.ddm_builder.proofs.DdmBuilder.add_code_point.Reads as add-code-point
 use Rattle.ddm_builder.proofs.DdmBuilder.add_u16.Reads as add-u16
@@ -28,8 +31,9 @@ use Rattle.gateway_builder.proofs.lattrugone_builder_add_code_point.Reads as ex
 use Rattle.gateway_builder.proofs.lattrugone_builder_add_u16.Reads as exported-add-u16
 use Rattle.gateway_builder.proofs.lattrugone_builder_add_u32.Reads as exported-add-u32
 use Rattle.demands_ddm.specs.Reading.{Added, none, more}
+use Rattle.demands_ddm.specs.Words.{AnswersNumber}
 use Rattle.demands_ddm.proofs.Requests.{Filled, added-filled}
-use Rattle.demands_ddm.proofs.Said.{after-is}
+use Rattle.demands_ddm.proofs.Said.{after-is, said-number}
 
 -- by `DdmBuilder::add_code_point`, `add_u16` and `add_u32`, from a fresh builder on
 pub data ByCalls (cp : ℕ) (start : List ℕ) : List (ℕ × List ℕ) → DdmBuilder → List ℕ → Type 0 where
@@ -73,6 +77,22 @@ refuses-some mark size need r e z =
     picked (leb mark size) e
     (λ t k. picked (leb need (size - mark)) k (λ u j. let y : _≡_ {A = ℕ} 0 1 = cc in omega arith) (λ u j. let y : _≡_ {A = ℕ} 0 9 = cc in omega arith))
     (λ t k. let y : _≡_ {A = ℕ} 0 10 = cc in omega arith)
+
+-- an addition for which there is room is made
+module _ (b : DdmBuilder) (bytes room : List ℕ) (h : b .fill + length bytes ≤ length room) where
+  room-enough : roomFor (b .fill) (length room) (length bytes) ≡ Enough
+  room-enough = pick-yes _ _ (le-leb (b .fill) (length room) (omega arith)) ∙ pick-yes _ _ (le-leb (length bytes) (length room - b .fill) (omega arith))
+
+  pub addition-made : (r : AddedOr) (after : List ℕ) → Adds b bytes room r after
+      → (r ≡ Done (record { «code_point» = b .«code_point»; fill = b .fill + length bytes })) × (after ≡ splice room (b .fill) bytes)
+  addition-made r after p = (p .answers ∙ ap (addedBy b (length bytes)) room-enough, p .room-is ∙ laid-fits room (b .fill) bytes h)
+
+  pub addition-said : (words : List ℕ) (r : ℕ) (after said : List ℕ) → 8 ≤ length words → Appends b bytes room words r after said
+      → AnswersNumber (b .fill + length bytes) words r said × (after ≡ splice room (b .fill) bytes)
+  addition-said words r after said k p = (
+    said-number words r said k (b .fill + length bytes) (subst (λ (x : RoomFor). Answered (addedWords (addedBy b (length bytes) x)) words r said) room-enough (p .answers)),
+    p .room-is ∙ laid-fits room (b .fill) bytes h,
+  )
 
 -- what one addition in words does
 one-more : (cp fill : ℕ) (start : List ℕ) (l : List (ℕ × List ℕ)) (now : List ℕ) → Added cp start l (builderOf cp fill) now

@@ -2,7 +2,8 @@
 -- and Rust. `f.Post κs (what goes in) r (what is lent, at the end)` is the contract of f itself: the answer r, and what lent slices
 -- hold at the end, are any that it allows. `x .now` is what a slice holds at the call, and `at-last x l` the slice with l in it at the
 -- end. A function over a row of records has `clauses` instead, and `ent .. (fact ..)` says that what it ensures entails the fact.
-use Prim.Native.Nat.{ℕ, _*_, _-_, _^_, _≤_, _<_}
+-- `Fits` and `Fit` hold of all that can be passed to a call: code points of sixteen bits, data of fewer than 2^63 bytes.
+use Prim.Native.Nat.{ℕ, _+_, _*_, _-_, _^_, _≤_, _<_}
 use mathlib.Core.Path.{_≡_, ap, subst, _∙_}
 use mathlib.Core.Bool.{false}
 use mathlib.Core.List.{List, [], _∷_, _++_}
@@ -16,7 +17,7 @@ use ghost.Atoms.{Atoms}
 use contract.Lifetimes.{Lfts}
 use contract.Monad.{Fun, fact, fact-mono}
 use denote.Ref.{RefT, at-last}
-use Rattle.wire.specs.Bytes.{two, last}
+use Rattle.wire.specs.Bytes.{two, last, splice}
 use Rattle.answer.specs.declared.Laid.{Laid}
 use Rattle.answer.specs.declared.Laid.the-variants.{Bytes}
 use Rattle.layouts.specs.DdmLayout.{Ddm, Streamed}
@@ -25,10 +26,13 @@ use Rattle.ddm_length.specs.MarkerLaws.{Marked}
 use Rattle.ddm_length.proofs.strip_extended_ddm_continuation_markers.Reads as strip
 use Rattle.ddm_builder.specs.Built.{built}
 use Rattle.ddm_builder.specs.declared.DdmBuilder.{DdmBuilder}
+use Rattle.ddm_builder.specs.declared.Added.{Added}
+use Rattle.ddm_builder.specs.declared.Added.the-variants.{Done}
+use Rattle.ddm_builder.proofs.DdmBuilder.add_code_point.Reads as add-code-point
 use Rattle.ddm_builder.proofs.build_ddm_object.Reads as build-ddm-object
 use Rattle.ddm_builder.proofs.DdmBuilder.build.Reads as build
 use Rattle.ddm_object.specs.Objects.{parsed}
-use Rattle.ddm_object.specs.ObjectCalls.{notFound, ListsParameters, u16Of, u32Of}
+use Rattle.ddm_object.specs.ObjectCalls.{notFound, ObjectAt, ListsParameters, u16Of, u32Of}
 use Rattle.ddm_object.specs.declared.DdmObject.{DdmObject}
 use Rattle.ddm_object.specs.declared.ObjectFound.{ObjectFound}
 use Rattle.ddm_object.specs.declared.ObjectFound.the-variants.{Object as Gives, Refused as NotGiven}
@@ -54,7 +58,8 @@ use Rattle.gateway_object.proofs.lattrugone_strip_markers.Reads as lattrugone-s
 use Rattle.gateway_object_rows.specs.RowWords.{ObjectsWords, ParametersWords}
 use Rattle.gateway_object_rows.proofs.lattrugone_parameters.Reads as lattrugone-parameters
 use Rattle.gateway_object_rows.proofs.lattrugone_objects.Reads as lattrugone-objects
-use Rattle.gateway_builder.specs.BuilderWords.{builderOf}
+use Rattle.gateway_builder.specs.BuilderWords.{builderOf, adding}
+use Rattle.gateway_builder.proofs.lattrugone_builder_add_code_point.Reads as lattrugone-builder-add-code-point
 use Rattle.gateway_builder.proofs.lattrugone_build_ddm_object.Reads as lattrugone-build-ddm-object
 use Rattle.gateway_builder.proofs.lattrugone_builder_build.Reads as lattrugone-builder-build
 use Rattle.demands_ddm.specs.Layouts.{Fits, BuildsLayout, ReadsLayout, RemovesMarkers, ReadsOtherWidths, ReadHasLayout, FixesObject}
@@ -64,7 +69,7 @@ use Rattle.demands_ddm.proofs.Layouts.{builds-layout, reads-layout, rem
 use Rattle.demands_ddm.proofs.LayoutRead.{layout-read}
 use Rattle.demands_ddm.proofs.Said.{said-parameters, said-objects}
 use Rattle.demands_ddm.proofs.Back.{laid-back, laid-back-said, build-back, build-back-said}
-use Rattle.demands_ddm.proofs.Adding.{ByCalls, ByWords, calls-filled, words-filled}
+use Rattle.demands_ddm.proofs.Adding.{ByCalls, ByWords, calls-filled, words-filled, addition-made, addition-said}
 use Rattle.demands_ddm.proofs.Exports.{layout-said, found-said, lacking-said, strip-said, u16-back, u32-back, u16-said, u32-said}
 use Rattle.demands_ddm.proofs.RequestBack.{request-back, request-list, request-back-said, request-list-said}
 use Rattle.demands_ddm.proofs.Calls.{param-found, param-lacking, marks-stripped, parameters-back, objects-back}
@@ -198,27 +203,42 @@ module _ (cp : ℕ) (bytes work : RefT (List ℕ)) (workAfter : List ℕ) where
     none-is-found-in-words l fit lacks e =
         lacking-said cp (work .now) (words .now) r workAfter said eight l fit lacks (subst (λ (s : List ℕ). ReadsParam s cp (work .now) (words .now) r workAfter said) e q)
 
--- ---- a request: parameters added one after the other, the object built, read from wherever it stands, and its parameters listed
+-- ---- an addition for which there is room behind the fill mark is made there, and all else stays
+
+module _ (cp fill c : ℕ) (d room : RefT (List ℕ)) (after : List ℕ) (enough : fill + length (built c (d .now)) ≤ length (room .now)) where
+  -- by `add_code_point`
+  pub addition-is-made : (κs : Lfts 2) (r : Added) → add-code-point.Post κs (builderOf cp fill, (c, (d, (room, tt)))) r (builderOf cp fill, (c, (d, (at-last room after, tt))))
+      → (r ≡ Done (builderOf cp (fill + length (built c (d .now))))) × (after ≡ splice (room .now) fill (built c (d .now)))
+  addition-is-made κs r p = addition-made (builderOf cp fill) (built c (d .now)) (room .now) enough r after p
+
+  -- by `lattrugone_builder_add_code_point`
+  pub addition-is-made-in-words : (κs : Lfts 3) (words : RefT (List ℕ)) (r : ℕ) (said : List ℕ) → 8 ≤ length (words .now)
+      → lattrugone-builder-add-code-point.Post κs (fill, (c, (d, (room, (words, tt))))) r (fill, (c, (d, (at-last room after, (at-last words said, tt)))))
+      → AnswersNumber (fill + length (built c (d .now))) (words .now) r said × (after ≡ splice (room .now) fill (built c (d .now)))
+  addition-is-made-in-words κs words r said h p = addition-said (adding fill) (built c (d .now)) (room .now) enough (words .now) r after said h p
+
+-- ---- a request: parameters added one after the other, each answered 0, the object built, read from wherever it stands, and its parameters listed
 
 module _ (cp : ℕ) (l : List (ℕ × List ℕ)) (fits : Fits cp (joined l)) (fit : Fit l) (start : List ℕ) (content room : RefT (List ℕ)) (after : List ℕ)
     (enough : length (built cp (joined l)) ≤ length (room .now)) (run : RefT (List ℕ)) (at : ℕ) (there : drop at (run .now) ≡ after) (work : RefT (List ℕ)) (workAfter : List ℕ) where
   -- by `add_code_point`, `add_u16` and `add_u32`, `build`, `object_at` and `parameters`
-  module _ (b : DdmBuilder) (added : ByCalls cp start l b (content .now)) (κs κt : Lfts 2) (laid : Laid) (o : DdmObject)
+  module _ (b : DdmBuilder) (added : ByCalls cp start l b (content .now)) (κs κt : Lfts 2) (laid : Laid) (r : ObjectFound)
       (p : build.Post κs (b, (content, (room, tt))) laid (b, (content, (at-last room after, tt))))
-      (q : object-at.Post κt (run, (at, (work, tt))) (Gives o) (run, (at, (at-last work workAfter, tt)))) where
+      (q : object-at.Post κt (run, (at, (work, tt))) r (run, (at, (at-last work workAfter, tt)))) where
     pub request-is-read : (laid ≡ Bytes (length (built cp (joined l)))) × InRoom cp (joined l) (room .now) after
-        × ReadsAs cp (joined l) (run .now) at (headerOf (joined l)) (work .now) (Gives o) workAfter
+        × ReadsAs cp (joined l) (run .now) at (headerOf (joined l)) (work .now) r workAfter
     request-is-read =
-        request-back cp l fits fit b (content .now) (calls-filled added) (room .now) after enough (run .now) at there laid p (work .now) (Gives o) workAfter q
+        request-back cp l fits fit b (content .now) (calls-filled added) (room .now) after enough (run .now) at there laid p (work .now) r workAfter q
 
     pub request-is-listed : {M : Type 1} (𝓤 : URA M) (H : Heap 𝓤) (A : Atoms 𝓤) (mem : Memory → SProp 𝓤) (routines : Routine → Fun 𝓤) (κu : Lfts 3) (bytes work′ : RefT (List ℕ)) (row : RefT (List DdmObject))
-        (r : ObjectsFound) (workAfter′ : List ℕ) (rowAfter : List DdmObject) → bytes .now ≡ dataOf (run .now) o → length l ≤ length (row .now)
-        → ent 𝓤 (parameters.clauses 𝓤 H A mem routines κu (bytes, (work′, (row, tt))) .ensures tt r (bytes, (at-last work′ workAfter′, (at-last row rowAfter, tt))))
-        (fact 𝓤 (ListsAs l (dataOf (run .now) o) (work′ .now) (row .now) r workAfter′ rowAfter))
-    request-is-listed 𝓤 H A mem routines κu bytes work′ row r workAfter′ rowAfter e k =
+        (o : DdmObject) (x : ObjectsFound) (workAfter′ : List ℕ) (rowAfter : List DdmObject) → r ≡ Gives o → bytes .now ≡ dataOf (run .now) o → length l ≤ length (row .now)
+        → ent 𝓤 (parameters.clauses 𝓤 H A mem routines κu (bytes, (work′, (row, tt))) .ensures tt x (bytes, (at-last work′ workAfter′, (at-last row rowAfter, tt))))
+        (fact 𝓤 (ListsAs l (dataOf (run .now) o) (work′ .now) (row .now) x workAfter′ rowAfter))
+    request-is-listed 𝓤 H A mem routines κu bytes work′ row o x workAfter′ rowAfter g e k =
         fact-mono 𝓤 _ _
-        (λ y. request-list cp l fits fit b (content .now) (calls-filled added) (room .now) after enough (run .now) at there laid p (work .now) o workAfter q (work′ .now) (row .now) k r workAfter′ rowAfter
-        (subst (λ (s : List ℕ). ListsParameters s (work′ .now) (row .now) r workAfter′ rowAfter) e y))
+        (λ y. request-list cp l fits fit b (content .now) (calls-filled added) (room .now) after enough (run .now) at there laid p (work .now) o workAfter
+        (subst (λ (z : ObjectFound). ObjectAt (run .now) at (work .now) z workAfter) g q) (work′ .now) (row .now) k x workAfter′ rowAfter
+        (subst (λ (s : List ℕ). ListsParameters s (work′ .now) (row .now) x workAfter′ rowAfter) e y))
 
   -- by the same calls exported
   module _ (fill : ℕ) (added : ByWords start l fill (content .now)) (κs κt : Lfts 3) (words words′ : RefT (List ℕ)) (n r : ℕ) (said said′ : List ℕ) (eight : 8 ≤ length (words .now)) (eight′ : 8 ≤ length (words′ .now))

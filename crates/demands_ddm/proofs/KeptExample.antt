@@ -147,4 +147,4 @@ module _ (κ₂ : Lfts 2) (κ₃ : Lfts 3) (κ₄ : Lfts 4) where
   unfolding lent params both object run built lengthBytes last laid splice objectAt parsed measured marshaled
   read-by-calls =
       request-is-read 0x1041 params (omega arith, omega (arith, params-fit .2)) (params-fit .0) (replicate 10 9) (lent both) (lent (replicate 14 9)) object (omega (arith, params-fit .3)) (lent run) 2 refl (lent []) [] (builder 9)
-      added-by-calls κ₂ κ₂ (Bytes 13) (plain 2 0x1041 4 9) (record { answers = refl; room-is = refl }) (record { answers = refl; work-is = refl })
+      added-by-calls κ₂ κ₂ (Bytes 13) (Gives (plain 2 0x1041 4 9)) (record { answers = refl; room-is = refl }) (record { answers = refl; work-is = refl })
