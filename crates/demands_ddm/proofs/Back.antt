@@ -14,7 +14,7 @@ use Rattle.answer.specs.declared.Laid.{Laid}
 use Rattle.answer.specs.declared.Laid.the-variants.{Bytes}
 use Rattle.layouts.specs.DdmLayout.{Ddm}
 use Rattle.ddm_builder.specs.Built.{built}
-use Rattle.ddm_builder.specs.Builder.{objectOf, Builds}
+use Rattle.ddm_builder.specs.Builder.{Builds}
 use Rattle.ddm_builder.specs.Forms.{length-built}
 use Rattle.ddm_builder.specs.declared.DdmBuilder.{DdmBuilder}
 use Rattle.ddm_object.specs.ObjectCalls.{objectAt, ObjectAt}
@@ -26,7 +26,7 @@ use Rattle.gateway_builder.specs.BuilderWords.{Makes, madeLaid}
 use Rattle.gateway_builder.specs.BuilderWords as Exported
 use Rattle.demands_ddm.specs.Layouts.{Fits}
 use Rattle.demands_ddm.specs.Reading.{headerOf, InRoom, ReadsAs}
-use Rattle.demands_ddm.specs.Words.{AnswersLaid, AnswersObject}
+use Rattle.demands_ddm.specs.Words.{AnswersNumber, AnswersObject}
 use Rattle.demands_ddm.proofs.LayoutRead.{built-read}
 use Rattle.demands_ddm.proofs.Said.{said-laid, said-object}
 
@@ -75,7 +75,7 @@ module _ (cp : ℕ) (d room after : List ℕ) (f : Fits cp d) (h : length (built
   -- the same in words
   pub laid-back-said : (words : List ℕ) (r : ℕ) (said : List ℕ) → 8 ≤ length words → Exported.Lays (built cp d) room words r after said
       → (work words′ : List ℕ) (r′ : ℕ) (workAfter said′ : List ℕ) → 8 ≤ length words′ → ReadsObject run at work words′ r′ workAfter said′
-      → AnswersLaid n words r said × InRoom cp d room after × AnswersObject cp d run n work words′ r′ workAfter said′
+      → AnswersNumber n words r said × InRoom cp d room after × AnswersObject cp d run n work words′ r′ workAfter said′
   laid-back-said words r said k p work words′ r′ workAfter said′ k′ q =
       let w = whole-of (built cp d) room after h (p .room-is) in
       (said-laid words r said k 0 (length room) n h (p .answers), in-room cp d room after f w, back-said cp d room after f w run at e work words′ r′ workAfter said′ k′ q)
@@ -100,7 +100,7 @@ module _ (b : DdmBuilder) (content room after : List ℕ) where
 
     pub build-back-said : (words : List ℕ) (r : ℕ) (said : List ℕ) → 8 ≤ length words → Makes b content room words r after said
         → (work words′ : List ℕ) (r′ : ℕ) (workAfter said′ : List ℕ) → 8 ≤ length words′ → ReadsObject run at work words′ r′ workAfter said′
-        → AnswersLaid (length (built cp d)) words r said × InRoom cp d room after × AnswersObject cp d run (length (built cp d)) work words′ r′ workAfter said′
+        → AnswersNumber (length (built cp d)) words r said × InRoom cp d room after × AnswersObject cp d run (length (built cp d)) work words′ r′ workAfter said′
     build-back-said words r said k p work words′ r′ workAfter said′ k′ q =
         let w = whole-of (built cp d) room after h (p .room-is ∙ pick-yes _ _ (le-leb (b .fill) (length content) inside)) in
         let l : madeLaid b content (length room) ≡ laidAtStart (b .fill) (length room) (length (built cp d)) = pick-yes _ _ (le-leb (b .fill) (length content) inside) in (

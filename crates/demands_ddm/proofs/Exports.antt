@@ -5,27 +5,34 @@ use native.Mathlib.Omega.{arith}
 use mathlib.Core.Path.{_≡_, refl, sym, ap, subst, _∙_}
 use mathlib.Core.Bool.{false}
 use mathlib.Core.List.{List, [], _∷_, _++_}
-use lib.ListN.{length, take, drop, length-append}
-use Rattle.wire.specs.Bytes.{laid}
+use borrow.Author.Tests.{le-leb}
+use lib.ListN.{length, drop, length-append}
+use lib.Seq.{take-all}
+use Rattle.wire.specs.Bytes.{two, last, spelled, laid}
+use Rattle.wire.specs.Laws.{pick-yes}
+use Rattle.wire.specs.Widths.{length-last, spelled-last}
 use Rattle.answer.specs.Rooms.{laidAtStart}
-use Rattle.answer.specs.declared.Laid.{Laid}
 use Rattle.layouts.specs.DdmLayout.{Ddm, Streamed}
 use Rattle.ddm_length.specs.Markers.{hasMarkers, unmarked}
 use Rattle.ddm_length.specs.MarkerLaws.{Marked, unmarked-marked}
 use Rattle.ddm_builder.specs.Built.{built}
 use Rattle.ddm_builder.specs.Forms.{length-built}
 use Rattle.ddm_object.specs.Objects.{parameters}
-use Rattle.ddm_object.specs.ObjectCalls.{objectAt, findFrom, FindsParam}
+use Rattle.ddm_object.specs.ObjectCalls.{objectAt, findFrom, FindsParam, u16Of, u32Of}
 use Rattle.ddm_object.specs.declared.ObjectFound.{ObjectFound}
+use Rattle.ddm_object.specs.declared.U16Found.{U16Found}
+use Rattle.ddm_object.specs.declared.U16Found.the-variants.{Number as U16}
+use Rattle.ddm_object.specs.declared.U32Found.{U32Found}
+use Rattle.ddm_object.specs.declared.U32Found.the-variants.{Number as U32}
 use Rattle.ddm_laws.specs.Lists.{joined, Fit}
 use Rattle.gateway_words.specs.Words.{Answered, laidWords}
-use Rattle.gateway_object.specs.ObjectWords.{ReadsObject, ReadsParam, Strips}
+use Rattle.gateway_object.specs.ObjectWords.{ReadsObject, ReadsParam, Strips, u16Words, u32Words}
 use Rattle.demands_ddm.specs.Layouts.{Fits}
 use Rattle.demands_ddm.specs.Reading.{headerOf, ReadsAs, Lacks}
-use Rattle.demands_ddm.specs.Words.{AnswersLaid, AnswersObject, AnswersNone}
+use Rattle.demands_ddm.specs.Words.{AnswersNumber, AnswersObject, AnswersNone}
 use Rattle.demands_ddm.proofs.LayoutRead.{ends-with, layout-read}
 use Rattle.demands_ddm.proofs.Finding.{none-found, first-found}
-use Rattle.demands_ddm.proofs.Said.{said-laid, said-object, said-none}
+use Rattle.demands_ddm.proofs.Said.{said-number, said-laid, said-object, said-none}
 use Rattle.demands_ddm.proofs.Back.{whole-of}
 
 -- bytes with the layout, at a place of a run
@@ -62,9 +69,27 @@ module _ (cp : ℕ) (work words : List ℕ) (r : ℕ) (workAfter said : List ℕ
 
 -- markers put where markers stand: 32,757 bytes, and then a marker before each 32,764 or what is left
 pub strip-said : (a s m room words : List ℕ) (r : ℕ) (after said : List ℕ) → length a ≡ 32757 → Marked s m → length (a ++ m) ≤ length room → 8 ≤ length words
-    → Strips (a ++ s) room words r after said → AnswersLaid (length (a ++ m)) words r said × (after ≡ (a ++ m) ++ drop (length (a ++ m)) room)
+    → Strips (a ++ s) room words r after said → AnswersNumber (length (a ++ m)) words r said × (after ≡ (a ++ m) ++ drop (length (a ++ m)) room)
 strip-said a s m room words r after said l w h k p =
     let u : unmarked (a ++ s) ≡ a ++ m = unmarked-marked a l w in (
       said-laid words r said k 0 (length room) (length (a ++ m)) h (subst (λ (x : List ℕ). Answered (laidWords (laidAtStart 0 (length room) (length x))) words r said) u (p .answers)),
       whole-of (a ++ m) room after h (p .room-is ∙ ap (laid room 0) u),
     )
+
+-- ---- numbers put in as two or four bytes
+
+pub u16-back : (n : ℕ) → n < 65536 → u16Of (two n) ≡ U16 n
+u16-back n h = ap U16 (omega arith)
+
+pub u32-back : (n : ℕ) → n < 2 ^ 32 → u32Of (last 4 n) ≡ U32 n
+unfolding u32Of
+u32-back n h =
+    let l : length (last 4 n) ≡ 4 = length-last 4 n in
+    pick-yes _ _ (le-leb 4 (length (last 4 n)) (omega arith)) ∙ ap (λ (x : List ℕ). U32 (spelled 0 x)) (take-all 4 (last 4 n) (omega arith)) ∙ ap U32 (spelled-last 4 n (omega arith))
+
+module _ (words : List ℕ) (r : ℕ) (said : List ℕ) (h : 8 ≤ length words) where
+  pub u16-said : (n : ℕ) → n < 65536 → Answered (u16Words (u16Of (two n))) words r said → AnswersNumber n words r said
+  u16-said n k a = said-number words r said h n (subst (λ (x : U16Found). Answered (u16Words x) words r said) (u16-back n k) a)
+
+  pub u32-said : (n : ℕ) → n < 2 ^ 32 → Answered (u32Words (u32Of (last 4 n))) words r said → AnswersNumber n words r said
+  u32-said n k a = said-number words r said h n (subst (λ (x : U32Found). Answered (u32Words x) words r said) (u32-back n k) a)

@@ -2,8 +2,9 @@
 -- and Rust. `f.Post κs (what goes in) r (what is lent, at the end)` is the contract of f itself: the answer r, and what lent slices
 -- hold at the end, are any that it allows. `x .now` is what a slice holds at the call, and `at-last x l` the slice with l in it at the
 -- end. A function over a row of records has `clauses` instead, and `ent .. (fact ..)` says that what it ensures entails the fact.
-use Prim.Native.Nat.{ℕ, _*_, _-_, _≤_}
-use mathlib.Core.Path.{_≡_, subst, _∙_}
+-- `Fits` and `Fit` hold of all that can be passed to a call: code points of sixteen bits, data of fewer than 2^63 bytes.
+use Prim.Native.Nat.{ℕ, _+_, _*_, _-_, _^_, _≤_, _<_}
+use mathlib.Core.Path.{_≡_, ap, subst, _∙_}
 use mathlib.Core.Bool.{false}
 use mathlib.Core.List.{List, [], _∷_, _++_}
 use lib.ListN.{length, getD, take, drop}
@@ -16,6 +17,7 @@ use ghost.Atoms.{Atoms}
 use contract.Lifetimes.{Lfts}
 use contract.Monad.{Fun, fact, fact-mono}
 use denote.Ref.{RefT, at-last}
+use Rattle.wire.specs.Bytes.{two, last, splice}
 use Rattle.answer.specs.declared.Laid.{Laid}
 use Rattle.answer.specs.declared.Laid.the-variants.{Bytes}
 use Rattle.layouts.specs.DdmLayout.{Ddm, Streamed}
@@ -24,38 +26,51 @@ use Rattle.ddm_length.specs.MarkerLaws.{Marked}
 use Rattle.ddm_length.proofs.strip_extended_ddm_continuation_markers.Reads as strip
 use Rattle.ddm_builder.specs.Built.{built}
 use Rattle.ddm_builder.specs.declared.DdmBuilder.{DdmBuilder}
+use Rattle.ddm_builder.specs.declared.Added.{Added}
+use Rattle.ddm_builder.specs.declared.Added.the-variants.{Done}
+use Rattle.ddm_builder.proofs.DdmBuilder.add_code_point.Reads as add-code-point
 use Rattle.ddm_builder.proofs.build_ddm_object.Reads as build-ddm-object
 use Rattle.ddm_builder.proofs.DdmBuilder.build.Reads as build
 use Rattle.ddm_object.specs.Objects.{parsed}
-use Rattle.ddm_object.specs.ObjectCalls.{notFound, ListsParameters}
+use Rattle.ddm_object.specs.ObjectCalls.{notFound, ObjectAt, ListsParameters, u16Of, u32Of}
 use Rattle.ddm_object.specs.declared.DdmObject.{DdmObject}
 use Rattle.ddm_object.specs.declared.ObjectFound.{ObjectFound}
 use Rattle.ddm_object.specs.declared.ObjectFound.the-variants.{Object as Gives, Refused as NotGiven}
 use Rattle.ddm_object.specs.declared.ObjectsFound.{ObjectsFound}
+use Rattle.ddm_object.specs.declared.U16Found.{U16Found}
+use Rattle.ddm_object.specs.declared.U16Found.the-variants.{Number as U16}
+use Rattle.ddm_object.specs.declared.U32Found.{U32Found}
+use Rattle.ddm_object.specs.declared.U32Found.the-variants.{Number as U32}
 use Rattle.ddm_object.proofs.object_at.Reads as object-at
+use Rattle.ddm_object.proofs.as_u16.Reads as as-u16
+use Rattle.ddm_object.proofs.as_u32.Reads as as-u32
 use Rattle.ddm_object.proofs.find_param.Reads as find-param
 use Rattle.ddm_object.proofs.parameters as parameters
 use Rattle.ddm_object.proofs.parse_ddm_objects as parse-ddm-objects
 use Rattle.ddm_laws.specs.Lists.{joined, Fit}
-use Rattle.gateway_object.specs.ObjectWords.{ReadsParam, Strips}
+use Rattle.gateway_words.specs.Words.{Answered}
+use Rattle.gateway_object.specs.ObjectWords.{ReadsParam, Strips, u16Words, u32Words}
+use Rattle.gateway_object.proofs.lattrugone_as_u16.Reads as lattrugone-as-u16
+use Rattle.gateway_object.proofs.lattrugone_as_u32.Reads as lattrugone-as-u32
 use Rattle.gateway_object.proofs.lattrugone_object.Reads as lattrugone-object
 use Rattle.gateway_object.proofs.lattrugone_find_param.Reads as lattrugone-find-param
 use Rattle.gateway_object.proofs.lattrugone_strip_markers.Reads as lattrugone-strip-markers
 use Rattle.gateway_object_rows.specs.RowWords.{ObjectsWords, ParametersWords}
 use Rattle.gateway_object_rows.proofs.lattrugone_parameters.Reads as lattrugone-parameters
 use Rattle.gateway_object_rows.proofs.lattrugone_objects.Reads as lattrugone-objects
-use Rattle.gateway_builder.specs.BuilderWords.{builderOf}
+use Rattle.gateway_builder.specs.BuilderWords.{builderOf, adding}
+use Rattle.gateway_builder.proofs.lattrugone_builder_add_code_point.Reads as lattrugone-builder-add-code-point
 use Rattle.gateway_builder.proofs.lattrugone_build_ddm_object.Reads as lattrugone-build-ddm-object
 use Rattle.gateway_builder.proofs.lattrugone_builder_build.Reads as lattrugone-builder-build
 use Rattle.demands_ddm.specs.Layouts.{Fits, BuildsLayout, ReadsLayout, RemovesMarkers, ReadsOtherWidths, ReadHasLayout, FixesObject}
 use Rattle.demands_ddm.specs.Reading.{LaidFirst, InRoom, dataOf, headerOf, ReadsAs, ListsAs, Lacks}
-use Rattle.demands_ddm.specs.Words.{AnswersLaid, AnswersObject, AnswersList, AnswersNone}
+use Rattle.demands_ddm.specs.Words.{AnswersNumber, AnswersObject, AnswersList, AnswersNone}
 use Rattle.demands_ddm.proofs.Layouts.{builds-layout, reads-layout, removes-markers, reads-other-widths, read-has-layout, fixes-object}
 use Rattle.demands_ddm.proofs.LayoutRead.{layout-read}
 use Rattle.demands_ddm.proofs.Said.{said-parameters, said-objects}
 use Rattle.demands_ddm.proofs.Back.{laid-back, laid-back-said, build-back, build-back-said}
-use Rattle.demands_ddm.proofs.Adding.{ByCalls, ByWords, calls-filled, words-filled}
-use Rattle.demands_ddm.proofs.Exports.{layout-said, found-said, lacking-said, strip-said}
+use Rattle.demands_ddm.proofs.Adding.{ByCalls, ByWords, calls-filled, words-filled, addition-made, addition-said}
+use Rattle.demands_ddm.proofs.Exports.{layout-said, found-said, lacking-said, strip-said, u16-back, u32-back, u16-said, u32-said}
 use Rattle.demands_ddm.proofs.RequestBack.{request-back, request-list, request-back-said, request-list-said}
 use Rattle.demands_ddm.proofs.Calls.{param-found, param-lacking, marks-stripped, parameters-back, objects-back}
 
@@ -107,7 +122,7 @@ module _ (cp : ℕ) (d room : RefT (List ℕ)) (after : List ℕ) (fits : Fits c
   pub built-and-read-in-words : (κs κt : Lfts 3) (words words′ : RefT (List ℕ)) (n r : ℕ) (said said′ : List ℕ) → 8 ≤ length (words .now) → 8 ≤ length (words′ .now)
       → lattrugone-build-ddm-object.Post κs (cp, (d, (room, (words, tt)))) n (cp, (d, (at-last room after, (at-last words said, tt))))
       → lattrugone-object.Post κt (run, (at, (work, (words′, tt)))) r (run, (at, (at-last work workAfter, (at-last words′ said′, tt))))
-      → AnswersLaid (length (built cp (d .now))) (words .now) n said × InRoom cp (d .now) (room .now) after
+      → AnswersNumber (length (built cp (d .now))) (words .now) n said × InRoom cp (d .now) (room .now) after
       × AnswersObject cp (d .now) (run .now) (length (built cp (d .now))) (work .now) (words′ .now) r workAfter said′
   built-and-read-in-words κs κt words words′ n r said said′ h h′ p q =
       laid-back-said cp (d .now) (room .now) after fits enough (run .now) at there (words .now) n said h p (work .now) (words′ .now) r workAfter said′ h′ q
@@ -129,7 +144,7 @@ module _ (cp fill : ℕ) (content room : RefT (List ℕ)) (after : List ℕ) (in
   pub builder-and-read-in-words : (κs κt : Lfts 3) (words words′ : RefT (List ℕ)) (n r : ℕ) (said said′ : List ℕ) → 8 ≤ length (words .now) → 8 ≤ length (words′ .now)
       → lattrugone-builder-build.Post κs (cp, (fill, (content, (room, (words, tt))))) n (cp, (fill, (content, (at-last room after, (at-last words said, tt)))))
       → lattrugone-object.Post κt (run, (at, (work, (words′, tt)))) r (run, (at, (at-last work workAfter, (at-last words′ said′, tt))))
-      → AnswersLaid (length (built cp d)) (words .now) n said × InRoom cp d (room .now) after
+      → AnswersNumber (length (built cp d)) (words .now) n said × InRoom cp d (room .now) after
       × AnswersObject cp d (run .now) (length (built cp d)) (work .now) (words′ .now) r workAfter said′
   builder-and-read-in-words κs κt words words′ n r said said′ h h′ p q =
       build-back-said (builderOf cp fill) (content .now) (room .now) after fits inside enough (run .now) at there (words .now) n said h p (work .now) (words′ .now) r workAfter said′ h′ q
@@ -188,33 +203,48 @@ module _ (cp : ℕ) (bytes work : RefT (List ℕ)) (workAfter : List ℕ) where
     none-is-found-in-words l fit lacks e =
         lacking-said cp (work .now) (words .now) r workAfter said eight l fit lacks (subst (λ (s : List ℕ). ReadsParam s cp (work .now) (words .now) r workAfter said) e q)
 
--- ---- a request: parameters added one after the other, the object built, read from wherever it stands, and its parameters listed
+-- ---- an addition for which there is room behind the fill mark is made there, and all else stays
+
+module _ (cp fill c : ℕ) (d room : RefT (List ℕ)) (after : List ℕ) (enough : fill + length (built c (d .now)) ≤ length (room .now)) where
+  -- by `add_code_point`
+  pub addition-is-made : (κs : Lfts 2) (r : Added) → add-code-point.Post κs (builderOf cp fill, (c, (d, (room, tt)))) r (builderOf cp fill, (c, (d, (at-last room after, tt))))
+      → (r ≡ Done (builderOf cp (fill + length (built c (d .now))))) × (after ≡ splice (room .now) fill (built c (d .now)))
+  addition-is-made κs r p = addition-made (builderOf cp fill) (built c (d .now)) (room .now) enough r after p
+
+  -- by `lattrugone_builder_add_code_point`
+  pub addition-is-made-in-words : (κs : Lfts 3) (words : RefT (List ℕ)) (r : ℕ) (said : List ℕ) → 8 ≤ length (words .now)
+      → lattrugone-builder-add-code-point.Post κs (fill, (c, (d, (room, (words, tt))))) r (fill, (c, (d, (at-last room after, (at-last words said, tt)))))
+      → AnswersNumber (fill + length (built c (d .now))) (words .now) r said × (after ≡ splice (room .now) fill (built c (d .now)))
+  addition-is-made-in-words κs words r said h p = addition-said (adding fill) (built c (d .now)) (room .now) enough (words .now) r after said h p
+
+-- ---- a request: parameters added one after the other, each answered 0, the object built, read from wherever it stands, and its parameters listed
 
 module _ (cp : ℕ) (l : List (ℕ × List ℕ)) (fits : Fits cp (joined l)) (fit : Fit l) (start : List ℕ) (content room : RefT (List ℕ)) (after : List ℕ)
     (enough : length (built cp (joined l)) ≤ length (room .now)) (run : RefT (List ℕ)) (at : ℕ) (there : drop at (run .now) ≡ after) (work : RefT (List ℕ)) (workAfter : List ℕ) where
-  -- by `add_code_point`, `build`, `object_at` and `parameters`
-  module _ (b : DdmBuilder) (added : ByCalls cp start l b (content .now)) (κs κt : Lfts 2) (laid : Laid) (o : DdmObject)
+  -- by `add_code_point`, `add_u16` and `add_u32`, `build`, `object_at` and `parameters`
+  module _ (b : DdmBuilder) (added : ByCalls cp start l b (content .now)) (κs κt : Lfts 2) (laid : Laid) (r : ObjectFound)
       (p : build.Post κs (b, (content, (room, tt))) laid (b, (content, (at-last room after, tt))))
-      (q : object-at.Post κt (run, (at, (work, tt))) (Gives o) (run, (at, (at-last work workAfter, tt)))) where
+      (q : object-at.Post κt (run, (at, (work, tt))) r (run, (at, (at-last work workAfter, tt)))) where
     pub request-is-read : (laid ≡ Bytes (length (built cp (joined l)))) × InRoom cp (joined l) (room .now) after
-        × ReadsAs cp (joined l) (run .now) at (headerOf (joined l)) (work .now) (Gives o) workAfter
+        × ReadsAs cp (joined l) (run .now) at (headerOf (joined l)) (work .now) r workAfter
     request-is-read =
-        request-back cp l fits fit b (content .now) (calls-filled added) (room .now) after enough (run .now) at there laid p (work .now) (Gives o) workAfter q
+        request-back cp l fits fit b (content .now) (calls-filled added) (room .now) after enough (run .now) at there laid p (work .now) r workAfter q
 
     pub request-is-listed : {M : Type 1} (𝓤 : URA M) (H : Heap 𝓤) (A : Atoms 𝓤) (mem : Memory → SProp 𝓤) (routines : Routine → Fun 𝓤) (κu : Lfts 3) (bytes work′ : RefT (List ℕ)) (row : RefT (List DdmObject))
-        (r : ObjectsFound) (workAfter′ : List ℕ) (rowAfter : List DdmObject) → bytes .now ≡ dataOf (run .now) o → length l ≤ length (row .now)
-        → ent 𝓤 (parameters.clauses 𝓤 H A mem routines κu (bytes, (work′, (row, tt))) .ensures tt r (bytes, (at-last work′ workAfter′, (at-last row rowAfter, tt))))
-        (fact 𝓤 (ListsAs l (dataOf (run .now) o) (work′ .now) (row .now) r workAfter′ rowAfter))
-    request-is-listed 𝓤 H A mem routines κu bytes work′ row r workAfter′ rowAfter e k =
+        (o : DdmObject) (x : ObjectsFound) (workAfter′ : List ℕ) (rowAfter : List DdmObject) → r ≡ Gives o → bytes .now ≡ dataOf (run .now) o → length l ≤ length (row .now)
+        → ent 𝓤 (parameters.clauses 𝓤 H A mem routines κu (bytes, (work′, (row, tt))) .ensures tt x (bytes, (at-last work′ workAfter′, (at-last row rowAfter, tt))))
+        (fact 𝓤 (ListsAs l (dataOf (run .now) o) (work′ .now) (row .now) x workAfter′ rowAfter))
+    request-is-listed 𝓤 H A mem routines κu bytes work′ row o x workAfter′ rowAfter g e k =
         fact-mono 𝓤 _ _
-        (λ y. request-list cp l fits fit b (content .now) (calls-filled added) (room .now) after enough (run .now) at there laid p (work .now) o workAfter q (work′ .now) (row .now) k r workAfter′ rowAfter
-        (subst (λ (s : List ℕ). ListsParameters s (work′ .now) (row .now) r workAfter′ rowAfter) e y))
+        (λ y. request-list cp l fits fit b (content .now) (calls-filled added) (room .now) after enough (run .now) at there laid p (work .now) o workAfter
+        (subst (λ (z : ObjectFound). ObjectAt (run .now) at (work .now) z workAfter) g q) (work′ .now) (row .now) k x workAfter′ rowAfter
+        (subst (λ (s : List ℕ). ListsParameters s (work′ .now) (row .now) x workAfter′ rowAfter) e y))
 
-  -- by `lattrugone_builder_add_code_point`, `_builder_build`, `_object` and `_parameters`
+  -- by the same calls exported
   module _ (fill : ℕ) (added : ByWords start l fill (content .now)) (κs κt : Lfts 3) (words words′ : RefT (List ℕ)) (n r : ℕ) (said said′ : List ℕ) (eight : 8 ≤ length (words .now)) (eight′ : 8 ≤ length (words′ .now))
       (p : lattrugone-builder-build.Post κs (cp, (fill, (content, (room, (words, tt))))) n (cp, (fill, (content, (at-last room after, (at-last words said, tt))))))
       (q : lattrugone-object.Post κt (run, (at, (work, (words′, tt)))) r (run, (at, (at-last work workAfter, (at-last words′ said′, tt))))) where
-    pub request-is-read-in-words : AnswersLaid (length (built cp (joined l))) (words .now) n said × InRoom cp (joined l) (room .now) after
+    pub request-is-read-in-words : AnswersNumber (length (built cp (joined l))) (words .now) n said × InRoom cp (joined l) (room .now) after
         × AnswersObject cp (joined l) (run .now) (length (built cp (joined l))) (work .now) (words′ .now) r workAfter said′
     request-is-read-in-words =
         request-back-said cp l fits fit (builderOf cp fill) (content .now) (words-filled cp added) (room .now) after enough (run .now) at there (words .now) n said eight p (work .now) (words′ .now) r workAfter said′ eight′ q
@@ -227,6 +257,24 @@ module _ (cp : ℕ) (l : List (ℕ × List ℕ)) (fits : Fits cp (joined l)) (fi
         request-list-said cp l fits fit (builderOf cp fill) (content .now) (words-filled cp added) (room .now) after enough (run .now) at there (words .now) n said eight p (work .now) (words′ .now) r workAfter said′ eight′ q
         (bytes .now) e (work″ .now) (row .now) (words″ .now) k eight″ m workAfter″ rowAfter said″ y
 
+-- ---- a number put in as a parameter's two or four bytes comes back
+
+module _ (n : ℕ) (bytes : RefT (List ℕ)) where
+  -- by `as_u16`, `as_u32`
+  pub u16-comes-back : (κs : Lfts 1) (r : U16Found) → n < 65536 → bytes .now ≡ two n → as-u16.Post κs (bytes, tt) r (bytes, tt) → r ≡ U16 n
+  u16-comes-back κs r small e q = q ∙ ap u16Of e ∙ u16-back n small
+
+  pub u32-comes-back : (κs : Lfts 1) (r : U32Found) → n < 2 ^ 32 → bytes .now ≡ last 4 n → as-u32.Post κs (bytes, tt) r (bytes, tt) → r ≡ U32 n
+  u32-comes-back κs r small e q = q ∙ ap u32Of e ∙ u32-back n small
+
+  -- by `lattrugone_as_u16`, `lattrugone_as_u32`
+  module _ (κs : Lfts 2) (words : RefT (List ℕ)) (r : ℕ) (said : List ℕ) (eight : 8 ≤ length (words .now)) where
+    pub u16-comes-back-in-words : n < 65536 → bytes .now ≡ two n → lattrugone-as-u16.Post κs (bytes, (words, tt)) r (bytes, (at-last words said, tt)) → AnswersNumber n (words .now) r said
+    u16-comes-back-in-words small e q = u16-said (words .now) r said eight n small (subst (λ (x : List ℕ). Answered (u16Words (u16Of x)) (words .now) r said) e q)
+
+    pub u32-comes-back-in-words : n < 2 ^ 32 → bytes .now ≡ last 4 n → lattrugone-as-u32.Post κs (bytes, (words, tt)) r (bytes, (at-last words said, tt)) → AnswersNumber n (words .now) r said
+    u32-comes-back-in-words small e q = u32-said (words .now) r said eight n small (subst (λ (x : List ℕ). Answered (u32Words (u32Of x)) (words .now) r said) e q)
+
 -- ---- markers: 32,757 bytes, and then a marker before each 32,764 or what is left; they come out, and all else stays
 
 module _ (a s m : List ℕ) (first : length a ≡ 32757) (marked : Marked s m) (bytes room : RefT (List ℕ)) (with-markers : bytes .now ≡ a ++ s) (enough : length (a ++ m) ≤ length (room .now)) (after : List ℕ) where
@@ -237,6 +285,6 @@ module _ (a s m : List ℕ) (first : length a ≡ 32757) (marked : Marked s m) (
   -- by `lattrugone_strip_markers`
   pub markers-come-out-in-words : (κs : Lfts 3) (words : RefT (List ℕ)) (r : ℕ) (said : List ℕ) → 8 ≤ length (words .now)
       → lattrugone-strip-markers.Post κs (bytes, (room, (words, tt))) r (bytes, (at-last room after, (at-last words said, tt)))
-      → AnswersLaid (length (a ++ m)) (words .now) r said × (after ≡ (a ++ m) ++ drop (length (a ++ m)) (room .now))
+      → AnswersNumber (length (a ++ m)) (words .now) r said × (after ≡ (a ++ m) ++ drop (length (a ++ m)) (room .now))
   markers-come-out-in-words κs words r said h q =
       strip-said a s m (room .now) (words .now) r after said first marked enough h (subst (λ (x : List ℕ). Strips x (room .now) (words .now) r after said) with-markers q)

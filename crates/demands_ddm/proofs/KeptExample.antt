@@ -1,10 +1,10 @@
 -- One request, through all calls: the premises of Kept's theorems are met, by computation. Two parameters are added, the object is
 -- built, read back at place 2 of a run, its parameters are listed, and one is found; first in words, then in records.
-use Prim.Native.Nat.{ℕ}
+use Prim.Native.Nat.{ℕ, _≤_}
 use native.Mathlib.Omega.{arith}
 use mathlib.Core.Path.{_≡_, refl}
 use mathlib.Core.List.{List, [], _∷_, _++_}
-use lib.ListN.{length, replicate}
+use lib.ListN.{length, drop, replicate, length-append}
 use contract.Lifetimes.{Lfts}
 use denote.Ref.{RefT}
 use Rattle.wire.specs.Bytes.{last, splice, laid}
@@ -12,21 +12,22 @@ use Rattle.answer.specs.declared.Laid.the-variants.{Bytes}
 use Rattle.layouts.specs.DdmLayout.{streamed}
 use Rattle.ddm_length.specs.Lengths.{measured, marshaled}
 use Rattle.ddm_length.specs.Markers.{unmarked}
+use Rattle.ddm_length.specs.MarkerLaws.{ends, fe}
 use Rattle.ddm_builder.specs.Built.{built, lengthBytes}
 use Rattle.ddm_builder.specs.declared.DdmBuilder.{DdmBuilder}
 use Rattle.ddm_object.specs.Objects.{parsed, parameters, parametersFuel}
 use Rattle.ddm_object.specs.ObjectCalls.{objectAt, recordsOf, worksOf, findFrom, workFound}
-use Rattle.ddm_object.specs.declared.DdmObject.{DdmObject}
 use Rattle.ddm_object.specs.declared.ObjectFound.the-variants.{Object as Gives}
 use Rattle.ddm_laws.specs.Lists.{joined, Fit}
+use Rattle.gateway_object.proofs.lattrugone_strip_markers.Reads as lattrugone-strip-markers
 use Rattle.gateway_object_rows.specs.RowWords.{rowWords}
 use Rattle.demands_ddm.specs.Reading.{plain, InRoom, ReadsAs, headerOf, Lacks}
-use Rattle.demands_ddm.specs.Words.{AnswersLaid, AnswersObject, AnswersList}
+use Rattle.demands_ddm.specs.Words.{AnswersNumber, AnswersObject, AnswersList}
 use Rattle.demands_ddm.proofs.Adding.{ByCalls, no-call, call, ByWords, no-word, word}
-use Rattle.demands_ddm.proofs.Kept.{layout-read-in-words, request-is-read, request-is-read-in-words, request-is-listed-in-words, first-is-found-in-words}
+use Rattle.demands_ddm.proofs.Kept.{layout-read-in-words, built-and-read-in-words, u16-comes-back-in-words, markers-come-out-in-words, request-is-read, request-is-read-in-words, request-is-listed-in-words, first-is-found-in-words}
 
 -- a slice that holds these, wherever it stands
-lent : List ℕ → RefT (List ℕ)
+pub lent : List ℕ → RefT (List ℕ)
 lent l = record { ptr = (0, 0); name = 0; now = l }
 
 pub zeros : List ℕ
@@ -49,6 +50,9 @@ object = 0 ∷ 13 ∷ 0x10 ∷ 0x41 ∷ 0 ∷ 5 ∷ 0x21 ∷ 0x10 ∷ 0xC1 ∷ 0
 pub run : List ℕ
 run = 1 ∷ 1 ∷ 0 ∷ 13 ∷ 0x10 ∷ 0x41 ∷ 0 ∷ 5 ∷ 0x21 ∷ 0x10 ∷ 0xC1 ∷ 0 ∷ 4 ∷ 0x11 ∷ 0x2F ∷ 9 ∷ []
 
+pub small-object : List ℕ
+small-object = 0x00 ∷ 0x05 ∷ 0x24 ∷ 0x12 ∷ 0xC1 ∷ 9 ∷ 9 ∷ 9 ∷ []
+
 pub content : List ℕ
 content = 0 ∷ 5 ∷ 0x21 ∷ 0x10 ∷ 0xC1 ∷ 0 ∷ 4 ∷ 0x11 ∷ 0x2F ∷ []
 
@@ -69,7 +73,7 @@ module _ (κ₂ : Lfts 2) (κ₃ : Lfts 3) (κ₄ : Lfts 4) where
       (record { answers = record { number-is = refl; words-are = refl }; room-is = refl })
 
   -- built, and read at place 2
-  pub read-in-words : AnswersLaid 13 zeros 0 (0 ∷ 0 ∷ 13 ∷ 0 ∷ 0 ∷ 0 ∷ 0 ∷ 0 ∷ []) × InRoom 0x1041 (joined params) (replicate 14 9) object
+  pub read-in-words : AnswersNumber 13 zeros 0 (0 ∷ 0 ∷ 13 ∷ 0 ∷ 0 ∷ 0 ∷ 0 ∷ 0 ∷ []) × InRoom 0x1041 (joined params) (replicate 14 9) object
       × AnswersObject 0x1041 (joined params) run 13 [] zeros 0 [] (0 ∷ 0 ∷ 0x1041 ∷ 0 ∷ 6 ∷ 9 ∷ 13 ∷ 0 ∷ [])
   unfolding lent zeros params both object run built lengthBytes last laid splice objectAt parsed measured marshaled
   read-in-words =
@@ -103,6 +107,30 @@ module _ (κ₂ : Lfts 2) (κ₃ : Lfts 3) (κ₄ : Lfts 4) where
       (lent (0x80 ∷ 0x04 ∷ 0x24 ∷ 0x12 ∷ 0xC1 ∷ 9 ∷ [])) 0 refl (lent []) [] κ₃ (lent zeros) 0 (0 ∷ 0 ∷ 0x2412 ∷ 0 ∷ 4 ∷ 2 ∷ 6 ∷ 0 ∷ []) (omega arith)
       (record { answers = record { number-is = refl; words-are = refl }; work-is = refl })
 
+  -- an object of one byte, built into a room of eight and read from it
+  pub built-in-words : AnswersNumber 5 zeros 0 (0 ∷ 0 ∷ 5 ∷ 0 ∷ 0 ∷ 0 ∷ 0 ∷ 0 ∷ []) × InRoom 0x2412 (0xC1 ∷ []) (replicate 8 9) small-object
+      × AnswersObject 0x2412 (0xC1 ∷ []) small-object 5 [] zeros 0 [] (0 ∷ 0 ∷ 0x2412 ∷ 0 ∷ 4 ∷ 1 ∷ 5 ∷ 0 ∷ [])
+  unfolding lent zeros small-object built lengthBytes last laid splice objectAt parsed measured marshaled
+  built-in-words =
+      built-and-read-in-words 0x2412 (lent (0xC1 ∷ [])) (lent (replicate 8 9)) small-object (omega arith, omega arith) (omega arith) (lent small-object) 0 refl (lent []) []
+      κ₃ κ₃ (lent zeros) (lent zeros) 0 0 (0 ∷ 0 ∷ 5 ∷ 0 ∷ 0 ∷ 0 ∷ 0 ∷ 0 ∷ []) (0 ∷ 0 ∷ 0x2412 ∷ 0 ∷ 4 ∷ 1 ∷ 5 ∷ 0 ∷ []) (omega arith) (omega arith)
+      (record { answers = record { number-is = refl; words-are = refl }; room-is = refl }) (record { answers = record { number-is = refl; words-are = refl }; work-is = refl })
+
+  -- 412 as two bytes
+  pub number-in-words : AnswersNumber 412 zeros 0 (0 ∷ 0 ∷ 412 ∷ 0 ∷ 0 ∷ 0 ∷ 0 ∷ 0 ∷ [])
+  unfolding lent zeros laid splice
+  number-in-words =
+      u16-comes-back-in-words 412 (lent (0x01 ∷ 0x9C ∷ [])) κ₂ (lent zeros) 0 (0 ∷ 0 ∷ 412 ∷ 0 ∷ 0 ∷ 0 ∷ 0 ∷ 0 ∷ []) (omega arith) (omega arith) refl
+      (record { number-is = refl; words-are = refl })
+
+  -- a marker behind 32,757 bytes, and whatever the contract allows
+  pub marker-in-words : (a room : List ℕ) → length a ≡ 32757 → 32758 ≤ length room → (r : ℕ) (after said : List ℕ)
+      → lattrugone-strip-markers.Post κ₃ (lent (a ++ (0x7F ∷ 0xFE ∷ 1 ∷ [])), (lent room, (lent zeros, tt))) r (lent (a ++ (0x7F ∷ 0xFE ∷ 1 ∷ [])), (lent after, (lent said, tt)))
+      → AnswersNumber (length (a ++ (1 ∷ []))) zeros r said × (after ≡ (a ++ (1 ∷ [])) ++ drop (length (a ++ (1 ∷ []))) room)
+  unfolding lent zeros
+  marker-in-words a room l h r after said q =
+      markers-come-out-in-words a (0x7F ∷ 0xFE ∷ 1 ∷ []) (1 ∷ []) l (ends fe (1 ∷ []) (omega arith) (omega arith)) (lent (a ++ (0x7F ∷ 0xFE ∷ 1 ∷ []))) (lent room) refl (omega (arith, length-append a (1 ∷ []))) after κ₃ (lent zeros) r said (omega arith) q
+
   -- ---- in records
 
   abbrev builder : ℕ → DdmBuilder
@@ -119,4 +147,4 @@ module _ (κ₂ : Lfts 2) (κ₃ : Lfts 3) (κ₄ : Lfts 4) where
   unfolding lent params both object run built lengthBytes last laid splice objectAt parsed measured marshaled
   read-by-calls =
       request-is-read 0x1041 params (omega arith, omega (arith, params-fit .2)) (params-fit .0) (replicate 10 9) (lent both) (lent (replicate 14 9)) object (omega (arith, params-fit .3)) (lent run) 2 refl (lent []) [] (builder 9)
-      added-by-calls κ₂ κ₂ (Bytes 13) (plain 2 0x1041 4 9) (record { answers = refl; room-is = refl }) (record { answers = refl; work-is = refl })
+      added-by-calls κ₂ κ₂ (Bytes 13) (Gives (plain 2 0x1041 4 9)) (record { answers = refl; room-is = refl }) (record { answers = refl; work-is = refl })

@@ -7,6 +7,7 @@ pub mod Building
 pub mod Stripping
 pub mod Requests
 pub mod Said
+pub mod WordsFix
 pub mod Back
 pub mod Adding
 pub mod Exports

@@ -1,8 +1,7 @@
 -- An object built parameter by parameter, laid into a room, read from wherever the room's bytes then stand, and its parameters listed:
 -- in records, and in words.
-use Prim.Native.Nat.{ℕ, _*_, _^_, _≤_, _<_}
-use native.Mathlib.Omega.{arith}
-use mathlib.Core.Path.{_≡_, refl, sym, ap, ap₂, subst, subst₂, _∙_}
+use Prim.Native.Nat.{ℕ, _*_, _≤_}
+use mathlib.Core.Path.{_≡_, sym, ap, subst, subst₂, _∙_}
 use mathlib.Core.List.{List}
 use lib.ListN.{length, getD, take, drop}
 use Rattle.answer.specs.declared.Laid.{Laid}
@@ -21,7 +20,7 @@ use Rattle.gateway_object_rows.specs.RowWords.{ParametersWords}
 use Rattle.gateway_builder.specs.BuilderWords.{Makes}
 use Rattle.demands_ddm.specs.Layouts.{Fits}
 use Rattle.demands_ddm.specs.Reading.{plain, dataOf, headerOf, InRoom, ReadsAs, ListsAs}
-use Rattle.demands_ddm.specs.Words.{AnswersLaid, AnswersObject, AnswersList}
+use Rattle.demands_ddm.specs.Words.{AnswersNumber, AnswersObject, AnswersList}
 use Rattle.demands_ddm.proofs.Requests.{Filled}
 use Rattle.demands_ddm.proofs.Listing.{parameters-listed}
 use Rattle.demands_ddm.proofs.Said.{said-parameters}
@@ -54,10 +53,10 @@ module _ (cp : ℕ) (l : List (ℕ × List ℕ)) (fits : Fits cp (joined l)) (fi
 
   module _ (words : List ℕ) (r : ℕ) (said : List ℕ) (k : 8 ≤ length words) (p : Makes b content room words r after said) (work words′ : List ℕ) (r′ : ℕ) (workAfter said′ : List ℕ)
       (k′ : 8 ≤ length words′) (q : ReadsObject run at work words′ r′ workAfter said′) where
-    pub request-back-said : AnswersLaid (length (built cp (joined l))) words r said × InRoom cp (joined l) room after
+    pub request-back-said : AnswersNumber (length (built cp (joined l))) words r said × InRoom cp (joined l) room after
         × AnswersObject cp (joined l) run (length (built cp (joined l))) work words′ r′ workAfter said′
     request-back-said =
-        subst₂ (λ (c : ℕ) (d : List ℕ). AnswersLaid (length (built c d)) words r said × InRoom c d room after × AnswersObject c d run (length (built c d)) work words′ r′ workAfter said′)
+        subst₂ (λ (c : ℕ) (d : List ℕ). AnswersNumber (length (built c d)) words r said × InRoom c d room after × AnswersObject c d run (length (built c d)) work words′ r′ workAfter said′)
         (f .code-point) (f .filled) (build-back-said b content room after own-fits (f .inside) own-room run at e words r said k p work words′ r′ workAfter said′ k′ q)
 
     -- the data are where the words say

@@ -1,13 +1,12 @@
 -- From an answer in words to what a caller looks up there.
-use Prim.Native.Nat.{ℕ, suc, _+_, _*_, _/_, _≤_}
+use Prim.Native.Nat.{ℕ, suc, _+_, _*_, _≤_}
 use native.Mathlib.Omega.{arith}
-use mathlib.Core.Path.{_≡_, refl, sym, ap, ap₂, subst, _∙_}
-use mathlib.Core.Bool.{false}
+use mathlib.Core.Path.{_≡_, refl, sym, ap, subst, _∙_}
 use mathlib.Core.List.{List, [], _∷_, _++_}
 use borrow.Author.Tests.{le-leb}
-use lib.ListN.{length, getD, take, drop}
+use lib.ListN.{length, getD, drop}
 use lib.Seq.{drop-at}
-use Rattle.wire.specs.Bytes.{splice, laid, landed}
+use Rattle.wire.specs.Bytes.{splice, landed}
 use Rattle.wire.specs.Laws.{pick-yes}
 use Rattle.wire.specs.Splice.{laid-fits, splice-none}
 use Rattle.answer.specs.Rooms.{laidAtStart}
@@ -22,12 +21,12 @@ use Rattle.ddm_object.specs.declared.ObjectFound.the-variants.{Refused as NotGi
 use Rattle.ddm_object.specs.declared.ObjectsFound.{ObjectsFound}
 use Rattle.ddm_object.specs.declared.ObjectsFound.the-variants.{Objects}
 use Rattle.ddm_laws.specs.Lists.{joined, objectsOf, Fit, parameters-joined, objects-joined}
-use Rattle.gateway_words.specs.Words.{Answered, laidWords}
+use Rattle.gateway_words.specs.Words.{doneWords, laidWords, Answered}
 use Rattle.gateway_object.specs.ObjectWords.{objectWords, foundWords}
-use Rattle.gateway_object_rows.specs.RowWords.{listWords, rowWords, records, ListsWords, ObjectsWords, ParametersWords}
+use Rattle.gateway_object_rows.specs.RowWords.{listWords, rowWords, records, ObjectsWords, ParametersWords}
 use Rattle.gateway_object_rows.specs.Filling.{row-length}
-use Rattle.demands_ddm.specs.Reading.{plain, dataOf, headerOf, recordsBuilt, AllSay, LaidFirst, ReadsAs}
-use Rattle.demands_ddm.specs.Words.{Says, AnswersLaid, AnswersObject, RowSays, AnswersList, AnswersNone}
+use Rattle.demands_ddm.specs.Reading.{plain, dataOf, headerOf, recordsBuilt, AllSay, ReadsAs}
+use Rattle.demands_ddm.specs.Words.{Says, AnswersNumber, AnswersObject, RowSays, AnswersList, AnswersNone}
 use Rattle.demands_ddm.proofs.Listing.{rest-of, fit-listed, given-listed}
 
 -- the words, where there are eight: the answer's, and behind them what was there
@@ -40,18 +39,20 @@ after-is answer words r after l h a =
 -- ---- one object
 
 module _ (words : List ℕ) (r : ℕ) (after : List ℕ) (h : 8 ≤ length words) where
-  -- bytes laid down where there is room
-  pub said-laid : (place size n : ℕ) → n ≤ size → Answered (laidWords (laidAtStart place size n)) words r after → AnswersLaid n words r after
-  said-laid place size n f a =
-      let e : laidAtStart place size n ≡ _ = pick-yes _ _ (le-leb n size f) in
-      let b = subst (λ (x : Laid). Answered (laidWords x) words r after) e a in
+  -- one number
+  pub said-number : (n : ℕ) → Answered (doneWords n 0 0 0) words r after → AnswersNumber n words r after
+  said-number n b =
       let w = after-is _ words r after refl h b in
       record {
         done = b .number-is;
         number = ap (λ (x : List ℕ). getD x 0 0) w;
-        bytes = ap (λ (x : List ℕ). getD x 2 0) w;
+        result = ap (λ (x : List ℕ). getD x 2 0) w;
         behind = ap (drop 8) w;
       }
+
+  -- bytes laid down where there is room
+  pub said-laid : (place size n : ℕ) → n ≤ size → Answered (laidWords (laidAtStart place size n)) words r after → AnswersNumber n words r after
+  said-laid place size n f a = said-number n (subst (λ (x : Laid). Answered (laidWords x) words r after) (pick-yes _ _ (le-leb n size f)) a)
 
   says-plain : (cp : ℕ) (d s : List ℕ) (place header : ℕ) (rest : List ℕ) → dataOf s (plain place cp header (length d)) ≡ d
       → Says cp d s (header + length d) (objectWords (plain place cp header (length d)) ++ rest)

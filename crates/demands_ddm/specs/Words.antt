@@ -16,11 +16,11 @@ pub record Says (cp : ℕ) (d run : List ℕ) (takes : ℕ) (words : List ℕ) :
   pub data-length : getD words 5 0 ≡ length d
   pub takes-so-many : getD words 6 0 ≡ takes
 
--- A call that lays bytes down answers 0, and how many.
-pub record AnswersLaid (n : ℕ) (words : List ℕ) (r : ℕ) (after : List ℕ) : Type 0 where
+-- A call whose result is one number answers 0 and that number: how many bytes were laid down, or what was read from data.
+pub record AnswersNumber (n : ℕ) (words : List ℕ) (r : ℕ) (after : List ℕ) : Type 0 where
   pub done : r ≡ 0
   pub number : getD after 0 0 ≡ 0
-  pub bytes : getD after 2 0 ≡ n
+  pub result : getD after 2 0 ≡ n
   pub behind : drop 8 after ≡ drop 8 words
 
 -- A call that reads an object answers 0, and what was built; the work area stays.
