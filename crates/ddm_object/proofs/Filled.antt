@@ -7,7 +7,7 @@ use lib.ListN.{length, drop, replicate}
 use contract.Lifetimes.{Lfts}
 use base.Fml.{GName}
 use denote.Ref.{RefT, at-last}
-use Rattle.wire.specs.Bytes.{spelled, splice, laid}
+use Rattle.wire.specs.Bytes.{splice, laid}
 use Rattle.answer.specs.Rooms.{noRoom}
 use Rattle.answer.specs.declared.Refused.{Refused}
 use Rattle.ddm_length.specs.Lengths.{marshaled, measured}
@@ -74,6 +74,10 @@ module _ (κs : Lfts 2) (κt : Lfts 1) (a b : ℕ) (γ : GName) where
   -- the same with a work area that is one byte too short: 9, nothing is laid down, and the part is empty
   abbrev few : RefT (List ℕ)
   few = slice b 0 (replicate 32757 9)
+
+  pub short-some : object-data.Post κt (slice a 0 long, (0, (few, tt))) (slice a 0 []) (slice a 0 long, (0, (few, tt)))
+  unfolding objectAt parsed measured marshaled unmarked keptFuel
+  short-some = record { bytes-are = refl; starts = refl }
 
   pub short-example : (r : RefT (List ℕ)) → object-data.Post κt (slice a 0 long, (0, (few, tt))) r (slice a 0 long, (0, (few, tt))) → r .now ≡ []
   unfolding objectAt parsed measured marshaled unmarked keptFuel laid splice

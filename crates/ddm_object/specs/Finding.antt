@@ -29,7 +29,7 @@ use Rattle.ddm_object.specs.declared.Stepped.the-variants.{Param, Refuse
 
 -- ---- one step
 
--- 11 at the end of the list: "place: the position ... as given"
+-- 11 at the end of the list: "A refusal's place ... for 1, 9, 10 and 11 it is the position or fill mark as given"
 abbrev pub endAt : ℕ → Refused
 endAt at = record { why = NotFound; place = at }
 
