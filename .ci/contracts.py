@@ -71,8 +71,8 @@ def module_file(module):
     return file if file.exists() else None
 
 
-# a definition's first line: a record's or a type's, or a name with its type
-HEADER = re.compile(r"( *)(?:abbrev |unfoldable )?(?:pub )?(?:(record|data) ([^\s:({]+)|([^\s:({]+)(?: \{[^}]*\})* :)")
+# a first line: of a record or a type; or a name with its type, a definition's where it has a mark, else a theorem's
+HEADER = re.compile(r" *(abbrev |unfoldable )?(?:pub )?(?:(record|data) ([^\s:({]+)|([^\s:({]+)(?: \{[^}]*\})* :)")
 
 
 class Source:
@@ -91,6 +91,7 @@ class Source:
         self.imported = {}  # name here: (file, name there)
         self.modules = {}  # name here: file
         self.defined = {}  # name: text
+        self.theorems = set()
         self.inside = {}  # a constructor's or a field's name: the name of its type
         self.sections = ""  # what the sections' heads say
         text = file.read_text()
@@ -124,20 +125,24 @@ class Source:
             if match and (name is None or indent <= depth):
                 name, depth, kind = match[3] or match[4], indent, match[2]
                 self.defined[name] = ""
+                if not match[1] and not kind:
+                    self.theorems.add(name)
             if name is None:
                 continue
             if kind and match and indent > depth:
                 self.inside[match[4] or match[3]] = name
             self.defined[name] += line.strip() + "\n"
 
-    def statement(self, name):
-        """A theorem's type: its lines up to its first clause."""
+    def believed(self, name):
+        """What of a name has to be read: of a theorem its type, of a definition all."""
+        if name not in self.theorems:
+            return self.defined[name]
         out = []
         for line in self.defined[name].splitlines():
             if out and (line.startswith(name + " ") or line.startswith("unfolding")):
                 break
             out.append(line)
-        return "\n".join(out)
+        return "\n".join(out).partition(" : ")[2]
 
     def resolve(self, text):
         """The definitions that a text here names, as (source, name)."""
