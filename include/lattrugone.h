@@ -310,7 +310,8 @@ uint8_t lattrugone_find_param(const uint8_t *data, size_t data_len, uint16_t cod
 /* One step over the parameters in an object's data, by measuring alone: start at 0, go on from words[OBJECT_BEHIND].
  * DONE: words[OBJECT_BEHIND] the next parameter's place, and the others that `object` has. Where words[OBJECT_IN_WORK] is 1,
  * nothing was laid down: strip_markers lays the data down, given the bytes from `at` + 4 on.
- * NONE at `at`: the parameters end here, at an unfit one or at the data's end; also where `at` is beyond the data. */
+ * In this order, each at `at`: OUT_OF_BOUNDS where `at` is beyond data_len, NONE where the parameters end, at an unfit one or at
+ * the data's end. */
 uint8_t lattrugone_param_step(const uint8_t *data, size_t data_len, size_t at, uint64_t *words, size_t words_len);
 
 /* How many bytes an object with so much data is built of: 4 and the data, and 4, 6 or 8 length bytes above 32,763,

@@ -85,6 +85,7 @@ static void objects_and_builder(void)
     ANSWERS(DONE, lattrugone_parameters(b, 0, b, 0, r, 0, w, n));
     ANSWERS(NONE, lattrugone_find_param(b, 0, 0x2412, b, 0, w, n));
     ANSWERS(NONE, lattrugone_param_step(b, 0, 0, w, n));
+    ANSWERS(LATTRUGONE_OUT_OF_BOUNDS, lattrugone_param_step(b, 0, 1, w, n));
     IS(4, lattrugone_object_total_length(0));
     ANSWERS(NONE, lattrugone_as_u16(b, 0, w, n));
     ANSWERS(NONE, lattrugone_as_u32(b, 0, w, n));

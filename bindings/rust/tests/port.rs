@@ -76,7 +76,7 @@ fn marks_beyond_their_buffer() {
     assert_eq!((port::remaining(&[], 1), port::has_frame(&[], 1)), (0, 0));
     assert_eq!(
         words(|w| port::param_step(&[], 1, w)),
-        [11, 1, 0, 0, 0, 0, 0, 0]
+        [10, 1, 1, 0, 0, 0, 0, 0]
     );
     assert_eq!(room, [0x11; 3]);
 }

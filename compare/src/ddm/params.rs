@@ -1,6 +1,7 @@
 //! The Rust's parameters, and where it goes astray in their list.
 use super::objects::Item;
 use super::rust::{text, too_large};
+use crate::answers::{refused, Words};
 use crate::stops::unless_stopped;
 use crate::{shown, Tally};
 use db2_proto::ddm::DdmObject;
@@ -47,6 +48,21 @@ fn foretold(data: &[u8], mut at: usize) -> &'static str {
             _ => return list,
         }
         list = "a longer list";
+    }
+}
+
+/// What a step at a place comes to, which need not be a parameter's: the Rust has the data from there on; beyond them, document
+/// 01's 10.
+pub fn step(tally: &mut Tally, data: &[u8], at: usize) -> Words {
+    let Some(rest) = data.get(at..) else {
+        return refused(10, at as u64, &[at as u64, data.len() as u64]);
+    };
+    match parameters(tally, rest).items.first_mut() {
+        None => refused(11, at as u64, &[]),
+        Some(first) => {
+            first.place = at;
+            first.words(first.next())
+        }
     }
 }
 

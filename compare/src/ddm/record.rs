@@ -6,7 +6,7 @@ mod numbers;
 use super::lengths::headed;
 use super::lists::{good, unfit};
 use super::objects::{object, objects, Found, Item};
-use super::params::parameters;
+use super::params::{self, parameters};
 use super::rust::{marshaled, text};
 use crate::answers::{done, expected, refused, Words};
 use crate::reader::record::rooms;
@@ -130,16 +130,9 @@ fn lists(list: &mut List, asked: Asked, items: Result<Vec<Item>, Words>, turn: u
     }
 }
 
-/// The parameter at a place: the Rust has the data from there on.
+/// The parameter at a place.
 fn step(list: &mut List, tally: &mut Tally, data: &[u8], at: usize, words: usize) {
-    let rest = data.get(at..).unwrap_or(&[]);
-    let answer = match parameters(tally, rest).items.first_mut() {
-        None => refused(11, at as u64, &[]),
-        Some(first) => {
-            first.place = at;
-            first.words(first.next())
-        }
-    };
+    let answer = params::step(tally, data, at);
     let asked = Asked::new(84, &[at as u64], data).words(words);
     list.answer(asked, 0, &expected(answer, words));
 }

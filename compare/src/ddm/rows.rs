@@ -47,16 +47,9 @@ impl Held {
         tally.same("param_step", &input(data, at), port, rust);
     }
 
-    /// A step at a place that need not be a parameter's: the Rust has the data from there on.
+    /// A step at a place that need not be a parameter's.
     pub fn hold_step_at(&mut self, tally: &mut Tally, data: &[u8], at: usize) {
-        let rest = data.get(at..).unwrap_or(&[]);
-        let words = match params::parameters(tally, rest).items.first_mut() {
-            None => refused(11, at as u64, &[]),
-            Some(first) => {
-                first.place = at;
-                first.words(first.next())
-            }
-        };
+        let words = params::step(tally, data, at);
         self.hold_step(tally, data, at, words);
     }
 
