@@ -6,8 +6,8 @@ use crate::record::{sum, Asked, List, BYTE};
 use crate::Tally;
 
 /// The data of an object at a place, 176: after the call that fills the work area, what that says with the length of the part in
-/// the last word. Where the data go there, also 177: in a work area as it is lent, the part's length alone. Both return its sum.
-/// In a work area that is just enough, and in one that is short by one or longer.
+/// the last word. Where a work area is lent, also 177: in it as it is, the part's length alone. Both return the part's sum. In a
+/// work area that is just enough, and in ones that are short by one and longer.
 pub fn data(list: &mut List, run: &[u8], at: usize, found: &Found, turn: usize) {
     let asked = |call: u64| Asked::new(call, &[at as u64], run);
     let mut parsed = |room: usize, mut words: Words, laid: &[u8], part: &[u8]| {
