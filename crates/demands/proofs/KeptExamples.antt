@@ -51,7 +51,7 @@ use Rattle.demands.proofs.ExampleRun.{three, three-run, three-sizes}
 use Rattle.demands.proofs.WrittenLayout.{allowed-sent}
 use Rattle.demands.proofs.LayoutExamples as layouts
 use Rattle.demands.proofs.KeptMeaning.{notWhole, ReadAgain, NotReadAgain, ReadAgainInWords, NotReadAgainInWords, AllBackInWords, RecoveredInWords, RefusedInWords, StructureBack, StructureBackInWords, LaidInWords, typeFive, RefusedAs}
-use Rattle.demands.proofs.Kept.{write-refused, read-refused, Calls, read-back, not-whole, ExportedCalls, exported-read-back, exported-not-whole, exported-all-read-back, exported-salvaged-back, exported-write-refused, exported-read-refused, exported-all-read-refused, exported-salvage-refused, laid-out, laid-read, laid-not-whole, laid-five, exported-laid-out, exported-laid-read, exported-laid-not-whole, exported-laid-five, taken-again}
+use Rattle.demands.proofs.Kept.{write-refused, read-refused, Calls, read-back, not-whole, ExportedCalls, exported-read-back, exported-not-whole, exported-all-read-back, exported-salvaged-back, exported-write-refused, exported-read-refused, exported-all-read-refused, exported-salvage-refused, laid-out, laid-read, laid-not-whole, laid-five, exported-laid-out, exported-laid-read, exported-laid-not-whole, exported-laid-five, taken-again, exported-taken-again}
 
 -- bytes or words that are lent
 abbrev lending : List ℕ → RefT (List ℕ)
@@ -351,6 +351,17 @@ unfolding frameEnd splice laid readAt absorb absorbFuel look payloadOf endOf fra
 taken-twice κs κs′ κs″ =
     taken-again κs κs′ κs″ (standsAt 0) (standsAt 6) (lending (p2 ++ p2)) (lending (p2 ++ p2 ++ p8)) (lending (9 ∷ [])) (lending (9 ∷ [])) p8 taken (Hands taken (standsAt 6)) (9 ∷ []) (9 ∷ [])
     refl refl (record { answers = refl; room-is = refl }) refl (record { answers = refl; room-is = refl })
+
+-- its words say the position 6, where `has_frame` then answers 1
+abbrev taken-words : List ℕ
+taken-words = 0 ∷ 6 ∷ 6 ∷ 0x02 ∷ 7 ∷ 0 ∷ 1 ∷ 0 ∷ []
+
+pub taken-twice-in-words : (κs κs′ : Lfts 3) (κs″ : Lfts 1) → (_≡_ {A = ℕ} 0 0) × (take 8 taken-words ≡ take 8 taken-words) × (_≡_ {A = List ℕ} (9 ∷ []) (9 ∷ []))
+unfolding frameEnd splice laid readAt absorb absorbFuel look payloadOf endOf frameWalk continuations walkFuel
+taken-twice-in-words κs κs′ κs″ =
+    exported-taken-again κs κs′ κs″ 0 (lending (p2 ++ p2)) (lending (p2 ++ p2 ++ p8)) (lending (9 ∷ [])) (lending (9 ∷ [])) (lending (replicate 8 9)) (lending (replicate 8 9)) p8 (9 ∷ []) taken-words 0
+    (9 ∷ []) taken-words refl refl (omega arith) (omega arith) (record { answers = record { number-is = refl; words-are = refl }; room-is = refl }) refl
+    (record { answers = record { number-is = refl; words-are = refl }; room-is = refl })
 
 -- ---- refusals
 
