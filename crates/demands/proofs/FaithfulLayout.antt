@@ -35,7 +35,7 @@ pub record Told (w : Structure) (b : ℕ) : Type 0 where
   pub same : bit 0x10 b ≡ w .same
   pub reserved : b < 0x80
 
-format-told : (w : Structure) → w .type ≤ 5 → Told w (format w)
+pub format-told : (w : Structure) → w .type ≤ 5 → Told w (format w)
 format-told w h =
     let c : ℕ = pick (w .chained) 1 0 in
     let d : ℕ = pick (w .onError) 1 0 in

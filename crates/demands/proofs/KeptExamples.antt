@@ -3,15 +3,15 @@ use Prim.Native.Nat.{ℕ, _+_, _≤_}
 use native.Mathlib.Omega.{arith}
 use mathlib.Core.Path.{_≡_, refl, sym, ap, ap₂, subst, _∙_}
 use mathlib.Core.Bool.{true, false}
-use mathlib.Core.List.{List, [], _∷_}
+use mathlib.Core.List.{List, [], _∷_, _++_}
 use lib.ListN.{length, take, replicate, length-replicate}
 use contract.Lifetimes.{Lfts}
 use denote.Ref.{RefT}
-use Rattle.wire.specs.Bytes.{splice, laid}
+use Rattle.wire.specs.Bytes.{part, splice, laid}
 use Rattle.wire.specs.Octets.{octets-tested}
 use Rattle.answer.specs.Rooms.{noRoom}
 use Rattle.answer.specs.declared.Refusal.the-variants.{InvalidMagic}
-use Rattle.dss_head.specs.declared.DssType.the-variants.{Request}
+use Rattle.dss_head.specs.declared.DssType.the-variants.{Request, Reply}
 use Rattle.dss_frame.specs.Segments.{payloadOf, endOf, frameWalk, continuations, walkFuel}
 use Rattle.dss_frame.specs.Reading.{Read, refused, readAt, absorb, absorbFuel, look}
 use Rattle.dss_frame.specs.Records.{payloadsOf, recordsOf}
@@ -25,7 +25,8 @@ use Rattle.dss_writer.specs.Writer.{fresh, sent, wrote}
 use Rattle.dss_writer.specs.declared.DssWriter.{DssWriter}
 use Rattle.dss_writer.specs.declared.Wrote.{Wrote}
 use Rattle.dss_writer.specs.declared.Wrote.the-variants.{Done}
-use Rattle.dss_reader.specs.Reader.{standsAt, given, ReadAllFrames}
+use Rattle.dss_reader.specs.Reader.{standsAt, given, frameEnd, ReadAllFrames}
+use Rattle.dss_reader.specs.declared.FrameRead.{FrameRead}
 use Rattle.dss_reader.specs.declared.FrameRead.the-variants.{Frame as Hands, Refused as NotRead}
 use Rattle.dss_reader.specs.declared.FramesRead.{FramesRead}
 use Rattle.dss_reader.specs.declared.FramesRead.the-variants.{Frames}
@@ -37,16 +38,20 @@ use Rattle.gateway_reader.specs.ReaderWords.{frameWords}
 use Rattle.gateway_frames.proofs.lattrugone_read_all_frames.Reads as lattrugone-read-all-frames
 use Rattle.gateway_salvage.specs.SalvageWords.{SalvagesInWords}
 use Rattle.gateway_salvage.proofs.lattrugone_salvage.Reads as lattrugone-salvage
+use Rattle.layouts.specs.DssLayout.{Dss, FullLast}
 use Rattle.demands.specs.Demands.{Sendable, Unreadable, run}
 use Rattle.demands.specs.AllFrames.{joined}
-use Rattle.demands.specs.Table.{p8}
+use Rattle.demands.specs.Layouts.{structureOf}
+use Rattle.demands.specs.Table.{p2, p8}
 use Rattle.demands.proofs.ReaderKeeps.{payloads, frames-back}
 use Rattle.demands.proofs.AllFramesExample.{reply, object, pair, pair-alone}
 use Rattle.demands.proofs.ReadBack as ReadBack
 use Rattle.demands.proofs.SeveralRun.{alike}
 use Rattle.demands.proofs.ExampleRun.{three, three-run, three-sizes}
-use Rattle.demands.proofs.KeptMeaning.{notWhole, ReadAgain, NotReadAgain, ReadAgainInWords, NotReadAgainInWords, AllBackInWords, RecoveredInWords, RefusedInWords}
-use Rattle.demands.proofs.Kept.{write-refused, read-refused, Calls, read-back, not-whole, ExportedCalls, exported-read-back, exported-not-whole, exported-all-read-back, exported-salvaged-back, exported-write-refused, exported-read-refused, exported-all-read-refused, exported-salvage-refused}
+use Rattle.demands.proofs.WrittenLayout.{allowed-sent}
+use Rattle.demands.proofs.LayoutExamples as layouts
+use Rattle.demands.proofs.KeptMeaning.{notWhole, ReadAgain, NotReadAgain, ReadAgainInWords, NotReadAgainInWords, AllBackInWords, RecoveredInWords, RefusedInWords, StructureBack, StructureBackInWords, LaidInWords, typeFive, RefusedAs}
+use Rattle.demands.proofs.Kept.{write-refused, read-refused, Calls, read-back, not-whole, ExportedCalls, exported-read-back, exported-not-whole, exported-all-read-back, exported-salvaged-back, exported-write-refused, exported-read-refused, exported-all-read-refused, exported-salvage-refused, laid-out, laid-read, laid-not-whole, laid-five, exported-laid-out, exported-laid-read, exported-laid-not-whole, exported-laid-five, taken-again, exported-taken-again}
 
 -- bytes or words that are lent
 abbrev lending : List ℕ → RefT (List ℕ)
@@ -256,6 +261,107 @@ pub pair-answered : (room : List ℕ) (row : List DssFrame) → 6 ≤ length roo
 pair-answered room row h k r room-after row-after p =
     frames-back (pair false) (pair-alone false) room row (omega (arith, pair-sizes)) (omega (arith, pair-sizes)) r room-after row-after p .is
     ∙ ap₂ (λ (n m : ℕ). Frames n m (standsAt (length (joined written (pair false))))) (pair-sizes .1) (pair-sizes .0)
+
+-- ---- the volume's layout
+
+-- what was laid down from the mark 2 to the mark 9
+pub small-laid-out : (κs κs′ : Lfts 2) → Dss (structureOf small) (part filled 2 9)
+small-laid-out κs κs′ =
+    laid-out κs at-two (record { «correlation_id» = 7; fill = 9 }) Request true true (lending (0xAA ∷ [])) (lending (replicate 11 9)) filled
+    (allowed-sent small small-sendable (λ e. refl)) (small-calls κs κs′ .writes)
+
+pub small-laid-words : (κs κs′ : Lfts 3) → LaidInWords (structureOf small) 2 (0 ∷ 0 ∷ 7 ∷ 9 ∷ 0 ∷ 0 ∷ 0 ∷ 0 ∷ []) filled
+small-laid-words κs κs′ =
+    exported-laid-out κs 7 2 1 0x50 Request (lending (0xAA ∷ [])) (lending (replicate 11 9)) (lending (replicate 8 9)) filled (0 ∷ 0 ∷ 7 ∷ 9 ∷ 0 ∷ 0 ∷ 0 ∷ 0 ∷ [])
+    refl (allowed-sent small small-sendable (λ e. refl)) (omega arith) (small-exported κs κs′ .writes)
+
+-- `0007D0711234C1`, a chained request with same correlation and continue on error
+abbrev asked-frame : DssFrame
+asked-frame = record {
+  header = record { length = 7; «dss_type» = Request; flags = record { chained = true; «continue_on_error» = true; «same_correlation» = true }; «correlation_id» = 0x1234 };
+  «payload_at» = 0;
+  «payload_len» = 1;
+  segments = 1;
+}
+
+pub asked-back : (κs : Lfts 2) → StructureBack (layouts.asking true) layouts.asked (8 ∷ 8 ∷ []) (Hands asked-frame (standsAt 7)) (0xC1 ∷ 8 ∷ [])
+unfolding FullLast layouts.asked-laid splice laid readAt absorb absorbFuel look payloadOf endOf frameWalk continuations walkFuel
+asked-back κs =
+    laid-read κs (lending layouts.asked) (lending (8 ∷ 8 ∷ [])) (Hands asked-frame (standsAt 7)) (0xC1 ∷ 8 ∷ []) (layouts.asking true) layouts.asked-laid
+    (record { answers = refl; room-is = refl }) (λ k. k) (λ e. omega arith) (omega arith)
+
+pub asked-in-words : (κs : Lfts 3) → StructureBackInWords (layouts.asking true) layouts.asked (8 ∷ 8 ∷ []) 0 (0 ∷ 7 ∷ 7 ∷ 0x71 ∷ 0x1234 ∷ 1 ∷ 1 ∷ 0 ∷ []) (0xC1 ∷ 8 ∷ [])
+unfolding FullLast layouts.asked-laid splice laid readAt absorb absorbFuel look payloadOf endOf frameWalk continuations walkFuel
+asked-in-words κs =
+    exported-laid-read κs (lending layouts.asked) (lending (8 ∷ 8 ∷ [])) (lending (replicate 8 9)) 0 (0xC1 ∷ 8 ∷ []) (0 ∷ 7 ∷ 7 ∷ 0x71 ∷ 0x1234 ∷ 1 ∷ 1 ∷ 0 ∷ [])
+    (layouts.asking true) layouts.asked-laid (omega arith) (record { answers = record { number-is = refl; words-are = refl }; room-is = refl }) (λ k. k) (λ e. omega arith) (omega arith)
+
+-- two segments, the last of them full: 1
+abbrev two-full : List ℕ
+two-full = layouts.twoChunks (layouts.filling 32761) (layouts.filling 32765)
+
+two-full-cut : layouts.Cut (layouts.filling 32761) (layouts.filling 32765)
+two-full-cut = layouts.filled 32765 (omega arith)
+
+two-full-last : FullLast (two-full-cut .laid)
+two-full-last = two-full-cut .full (omega (arith, layouts.filling-length 32765))
+
+pub two-full-not-whole : (κs : Lfts 2) → (_≡_ {A = FrameRead} (NotRead (notWhole 0) (standsAt 0)) (NotRead (notWhole 0) (standsAt 0))) × (_≡_ {A = List ℕ} [] [])
+two-full-not-whole κs =
+    laid-not-whole κs (lending two-full) (lending []) (NotRead (notWhole 0) (standsAt 0)) [] _ (two-full-cut .laid)
+    (record { answers = sym (ap (given two-full 0 0) layouts.full-waits); room-is = sym (ap (roomRead two-full []) layouts.full-waits) }) two-full-last
+
+pub two-full-in-words : (κs : Lfts 3) → RefusedAs (notWhole 0) [] 1 (1 ∷ replicate 7 0) []
+unfolding splice laid
+two-full-in-words κs =
+    exported-laid-not-whole κs (lending two-full) (lending []) (lending (replicate 8 9)) 1 [] (1 ∷ replicate 7 0) _ (two-full-cut .laid) (omega arith)
+    (record {
+      answers =
+          subst (λ (x : Read). Answered (frameWords (given two-full 0 0 x)) (replicate 8 9) 1 (1 ∷ replicate 7 0)) (sym layouts.full-waits)
+          (record { number-is = refl; words-are = refl });
+      room-is = sym (ap (roomRead two-full []) layouts.full-waits);
+    })
+    two-full-last
+
+-- `0006D0050007`, of type 5: 3 with 5
+pub five-not-read : (κs : Lfts 2) → (_≡_ {A = FrameRead} (NotRead (typeFive 0) (standsAt 0)) (NotRead (typeFive 0) (standsAt 0))) × (_≡_ {A = List ℕ} (replicate 3 9) (replicate 3 9))
+unfolding FullLast layouts.five-laid splice laid readAt absorb absorbFuel look payloadOf endOf frameWalk continuations walkFuel
+five-not-read κs =
+    laid-five κs (lending layouts.p4) (lending (replicate 3 9)) (NotRead (typeFive 0) (standsAt 0)) (replicate 3 9) layouts.noReply layouts.five-laid
+    (record { answers = refl; room-is = refl }) (λ k. k) refl
+
+pub five-in-words : (κs : Lfts 3) → RefusedAs (typeFive 0) (replicate 3 9) 3 (3 ∷ 0 ∷ 5 ∷ replicate 5 0) (replicate 3 9)
+unfolding FullLast layouts.five-laid splice laid readAt absorb absorbFuel look payloadOf endOf frameWalk continuations walkFuel
+five-in-words κs =
+    exported-laid-five κs (lending layouts.p4) (lending (replicate 3 9)) (lending (replicate 8 9)) 3 (replicate 3 9) (3 ∷ 0 ∷ 5 ∷ replicate 5 0) layouts.noReply layouts.five-laid (omega arith)
+    (record { answers = record { number-is = refl; words-are = refl }; room-is = refl }) (λ k. k) refl
+
+-- ---- a frame that may be taken: the first of two, and more bytes behind them
+
+abbrev taken : DssFrame
+taken = record {
+  header = record { length = 6; «dss_type» = Reply; flags = record { chained = false; «continue_on_error» = false; «same_correlation» = false }; «correlation_id» = 7 };
+  «payload_at» = 0;
+  «payload_len» = 0;
+  segments = 1;
+}
+
+pub taken-twice : (κs κs′ : Lfts 2) (κs″ : Lfts 1) → (_≡_ {A = FrameRead} (Hands taken (standsAt 6)) (Hands taken (standsAt 6))) × (_≡_ {A = List ℕ} (9 ∷ []) (9 ∷ []))
+unfolding frameEnd splice laid readAt absorb absorbFuel look payloadOf endOf frameWalk continuations walkFuel
+taken-twice κs κs′ κs″ =
+    taken-again κs κs′ κs″ (standsAt 0) (standsAt 6) (lending (p2 ++ p2)) (lending (p2 ++ p2 ++ p8)) (lending (9 ∷ [])) (lending (9 ∷ [])) p8 taken (Hands taken (standsAt 6)) (9 ∷ []) (9 ∷ [])
+    refl refl (record { answers = refl; room-is = refl }) refl (record { answers = refl; room-is = refl })
+
+-- its words say the position 6, where `has_frame` then answers 1
+abbrev taken-words : List ℕ
+taken-words = 0 ∷ 6 ∷ 6 ∷ 0x02 ∷ 7 ∷ 0 ∷ 1 ∷ 0 ∷ []
+
+pub taken-twice-in-words : (κs κs′ : Lfts 3) (κs″ : Lfts 1) → (_≡_ {A = ℕ} 0 0) × (take 8 taken-words ≡ take 8 taken-words) × (_≡_ {A = List ℕ} (9 ∷ []) (9 ∷ []))
+unfolding frameEnd splice laid readAt absorb absorbFuel look payloadOf endOf frameWalk continuations walkFuel
+taken-twice-in-words κs κs′ κs″ =
+    exported-taken-again κs κs′ κs″ 0 (lending (p2 ++ p2)) (lending (p2 ++ p2 ++ p8)) (lending (9 ∷ [])) (lending (9 ∷ [])) (lending (replicate 8 9)) (lending (replicate 8 9)) p8 (9 ∷ []) taken-words 0
+    (9 ∷ []) taken-words refl refl (omega arith) (omega arith) (record { answers = record { number-is = refl; words-are = refl }; room-is = refl }) refl
+    (record { answers = record { number-is = refl; words-are = refl }; room-is = refl })
 
 -- ---- refusals
 

@@ -1,16 +1,18 @@
 -- What the lines of Kept say holds after a call: in Rattle, of a record; for a caller in C or Rust, of the words that were lent.
-use Prim.Native.Nat.{ℕ, _+_, _*_, _≤_, _<_}
+use Prim.Native.Nat.{ℕ, _+_, _*_, _%_, _≤_, _<_}
 use mathlib.Core.Path.{_≡_}
 use mathlib.Core.Bool.{false}
 use mathlib.Core.List.{List, [], _∷_}
 use lib.ListN.{length, getD, take, drop}
 use Rattle.wire.specs.Bytes.{part, splice}
 use Rattle.answer.specs.Numbers.{numberOf}
-use Rattle.answer.specs.declared.Refusal.the-variants.{Incomplete}
+use Rattle.answer.specs.declared.Refusal.the-variants.{Incomplete, InvalidDssType}
 use Rattle.answer.specs.declared.Refused.{Refused}
 use Rattle.dss_head.specs.Heads.{typeAt, flagsOf}
 use Rattle.dss_head.specs.declared.DssFlags.{DssFlags}
 use Rattle.dss_head.specs.declared.TypeFound.the-variants.{Is}
+use Rattle.dss_frame.specs.Reading.{Frame}
+use Rattle.dss_frame.specs.Records.{recordOf}
 use Rattle.dss_frame.specs.Written.{Sent, written}
 use Rattle.dss_frame.specs.declared.DssFrame.{DssFrame}
 use Rattle.dss_writer.specs.declared.DssWriter.{DssWriter}
@@ -21,8 +23,10 @@ use Rattle.dss_reader.specs.declared.FrameRead.{FrameRead}
 use Rattle.dss_reader.specs.declared.FrameRead.the-variants.{Frame as Hands, Refused as NotRead}
 use Rattle.gateway_words.specs.Words.{refusalWords, doneWords}
 use Rattle.gateway_row.specs.RecordBack.{eights}
+use Rattle.layouts.specs.DssLayout.{Structure, Dss}
 use Rattle.demands.specs.Demands.{Item, good, spoilt, run, bytesOf}
 use Rattle.demands.specs.AllFrames.{joined}
+use Rattle.demands.specs.Layouts.{Says}
 use Rattle.demands.proofs.ReaderKeeps.{payloads}
 use Rattle.demands.proofs.SalvageKeeps.{dueBytes, allBytes}
 
@@ -92,6 +96,47 @@ pub record NotReadAgainInWords (f : Sent) (fill number : ℕ) (words : List ℕ)
   pub wrote-says : take 8 words ≡ doneWords (f .correlation) (behind fill f) 0 0
   pub read : number′ ≡ 1
   pub read-says : take 8 words′ ≡ refusalWords (notWhole fill)
+  pub room-is : after ≡ room
+
+-- ---- the volume's layout
+
+-- the structure comes back: its payload at the room's start, the rest of the room as it was, and the run wholly consumed
+pub record StructureBack (w : Structure) (b room : List ℕ) (r : FrameRead) (after : List ℕ) : Type 0 where
+  pub read : Frame
+  pub is : r ≡ Hands (recordOf b 0 read) (standsAt (length b))
+  pub says : Says w b read
+  pub room-is : after ≡ splice room 0 (w .payload)
+
+-- Eight words say a structure: number 0, the position behind it, type and three flags in the format byte, correlation, the payload's
+-- length.
+pub record StructureInWords (w : Structure) (position : ℕ) (words : List ℕ) : Type 0 where
+  pub number : getD words 0 0 ≡ 0
+  pub position-is : getD words 1 0 ≡ position
+  pub type : getD words 3 0 % 16 ≡ w .type
+  pub flags : flagsOf (getD words 3 0) ≡ record { chained = w .chained; «continue_on_error» = w .onError; «same_correlation» = w .same }
+  pub correlation : getD words 4 0 ≡ w .correlation
+  pub payload-len : getD words 5 0 ≡ length (w .payload)
+
+-- it comes back in words, with the position at the run's end
+pub record StructureBackInWords (w : Structure) (b room : List ℕ) (number : ℕ) (words after : List ℕ) : Type 0 where
+  pub number-is : number ≡ 0
+  pub says : StructureInWords w (length b) (take 8 words)
+  pub room-is : after ≡ splice room 0 (w .payload)
+
+-- what a writer's call laid down from a fill mark on, up to the mark that its words say, has a structure's layout
+pub record LaidInWords (w : Structure) (fill : ℕ) (words after : List ℕ) : Type 0 where
+  pub mark : ℕ
+  pub words-say : take 8 words ≡ doneWords (w .correlation) mark 0 0
+  pub laid : Dss w (part after fill mark)
+
+-- the difference "type 5": 3 with 5, at the head where the reading started
+abbrev pub typeFive : ℕ → Refused
+typeFive p = record { why = InvalidDssType 5; place = p }
+
+-- the answer is that refusal, number, place and values, and the room is as it was
+pub record RefusedAs (why : Refused) (room : List ℕ) (number : ℕ) (words after : List ℕ) : Type 0 where
+  pub number-is : number ≡ numberOf (why .why)
+  pub words-say : take 8 words ≡ refusalWords why
   pub room-is : after ≡ room
 
 -- ---- all frames, in words

@@ -16,13 +16,11 @@ use Rattle.wire.specs.Laws.{pick-yes, picked}
 use Rattle.wire.specs.Places.{here-part}
 use Rattle.wire.specs.Splice.{laid-fits}
 use Rattle.answer.specs.Rooms.{roomFor}
-use Rattle.answer.specs.declared.Refusal.the-variants.{Incomplete, InvalidDssType}
 use Rattle.answer.specs.declared.Refused.{Refused}
 use Rattle.answer.specs.declared.RoomFor.{RoomFor}
 use Rattle.answer.specs.declared.RoomFor.the-variants.{Enough, Refused as Refuses}
 use Rattle.dss_head.specs.declared.DssType.{DssType}
 use Rattle.dss_frame.specs.Segments.{payloadOf}
-use Rattle.dss_frame.specs.Reading.{Frame}
 use Rattle.dss_frame.specs.Records.{recordOf}
 use Rattle.dss_frame.specs.Written.{Sent, written}
 use Rattle.dss_take.specs.Take.{roomRead}
@@ -36,16 +34,17 @@ use Rattle.dss_reader.specs.declared.FrameRead.{FrameRead}
 use Rattle.dss_reader.specs.declared.FrameRead.the-variants.{Frame as Hands, Refused as NotRead}
 use Rattle.dss_reader.proofs.DssReader.next_frame.Reads as next-frame
 use Rattle.layouts.specs.DssLayout.{Structure, Allowed, Dss, FullLast}
-use Rattle.demands.specs.Layouts.{structureOf, Says}
+use Rattle.demands.specs.Layouts.{structureOf}
+use Rattle.demands.proofs.KeptMeaning.{StructureBack, notWhole, typeFive}
 use Rattle.demands.proofs.WrittenLayout.{writes-layout}
 use Rattle.demands.proofs.LayoutReads.{reads-layout, refuses-five, waits-behind-full}
 
 -- ---- the writer
 
-done-refused : (d : DssWriter) (r : Refused) → NotWritten r ≡ Done d → ⊥
+pub done-refused : (d : DssWriter) (r : Refused) → NotWritten r ≡ Done d → ⊥
 done-refused d r e = let z : _≡_ {A = ℕ} 0 1 = cc in omega arith
 
-same-done : (c d : DssWriter) → Done c ≡ Done d → c ≡ d
+pub same-done : (c d : DssWriter) → Done c ≡ Done d → c ≡ d
 same-done c d e = cc
 
 refuses-enough : (r : Refused) → Refuses r ≡ Enough → ⊥
@@ -89,15 +88,8 @@ write-dss-laid κs w d t chained same payload room after a p = between-laid w d 
 
 -- ---- the reader
 
--- the structure comes back: its payload at the room's start, the rest of the room as it was, and the run wholly consumed
-pub record Back (w : Structure) (b room : List ℕ) (r : FrameRead) (after : List ℕ) : Type 0 where
-  pub read : Frame
-  pub is : r ≡ Hands (recordOf b 0 read) (standsAt (length b))
-  pub says : Says w b read
-  pub room-is : after ≡ splice room 0 (w .payload)
-
 module _ (w : Structure) (b : List ℕ) (l : Dss w b) (room : List ℕ) (r : FrameRead) (after : List ℕ) (p : NextFrame b 0 room r after) where
-  pub layout-back : (FullLast l → ⊥) → (w .type ≡ 5 → ⊥) → length (w .payload) ≤ length room → Back w b room r after
+  pub layout-back : (FullLast l → ⊥) → (w .type ≡ 5 → ⊥) → length (w .payload) ≤ length room → StructureBack w b room r after
   layout-back k ne h =
       let x = reads-layout w b l k ne in
       let g = x .read in
@@ -115,15 +107,15 @@ module _ (w : Structure) (b : List ℕ) (l : Dss w b) (room : List ℕ) (r : Fra
       }
 
   -- the differences: 1 and 3, position and room as they were
-  pub layout-not-whole : FullLast l → (r ≡ NotRead (record { why = Incomplete; place = 0 }) (standsAt 0)) × (after ≡ room)
+  pub layout-not-whole : FullLast l → (r ≡ NotRead (notWhole 0) (standsAt 0)) × (after ≡ room)
   layout-not-whole k = (p .answers ∙ ap (given b 0 (length room)) (waits-behind-full w b l k), p .room-is ∙ ap (roomRead b room) (waits-behind-full w b l k))
 
-  pub layout-five : (FullLast l → ⊥) → w .type ≡ 5 → (r ≡ NotRead (record { why = InvalidDssType 5; place = 0 }) (standsAt 0)) × (after ≡ room)
+  pub layout-five : (FullLast l → ⊥) → w .type ≡ 5 → (r ≡ NotRead (typeFive 0) (standsAt 0)) × (after ≡ room)
   layout-five k e = (p .answers ∙ ap (given b 0 (length room)) (refuses-five w b l k e), p .room-is ∙ ap (roomRead b room) (refuses-five w b l k e))
 
 -- over the contract of `next_frame` itself
 pub next-frame-laid : (κs : Lfts 2) (reader : DssReader) (run room : RefT (List ℕ)) (r : FrameRead) (after : List ℕ) (w : Structure) (l : Dss w (run .now))
     → reader ≡ standsAt 0 → (FullLast l → ⊥) → (w .type ≡ 5 → ⊥) → length (w .payload) ≤ length (room .now)
-    → next-frame.Post κs (reader, (run, (room, tt))) r (reader, (run, (at-last room after, tt))) → Back w (run .now) (room .now) r after
+    → next-frame.Post κs (reader, (run, (room, tt))) r (reader, (run, (at-last room after, tt))) → StructureBack w (run .now) (room .now) r after
 next-frame-laid κs reader run room r after w l e k ne h p =
     layout-back w (run .now) l (room .now) r after (subst (λ (d : DssReader). NextFrame (run .now) (d .position) (room .now) r after) e p) k ne h

@@ -45,10 +45,10 @@ unfolding written
 chain-written = refl
 
 -- a chained request with same correlation and continue on error: all that a format byte can say
-abbrev asking : Bool → Structure
+abbrev pub asking : Bool → Structure
 asking onError = record { type = 1; chained = true; onError = onError; same = true; correlation = 0x1234; payload = 0xC1 ∷ [] }
 
-asking-allowed : (onError : Bool) → Allowed (asking onError)
+pub asking-allowed : (onError : Bool) → Allowed (asking onError)
 asking-allowed onError =
     record {
       type = (omega arith, omega arith);
@@ -58,10 +58,10 @@ asking-allowed onError =
       same = λ e. refl;
     }
 
-abbrev asked : List ℕ
+abbrev pub asked : List ℕ
 asked = 0x00 ∷ 0x07 ∷ 0xD0 ∷ 0x71 ∷ 0x12 ∷ 0x34 ∷ 0xC1 ∷ []
 
-pub asked-laid : Dss (asking true) asked
+unfoldable pub asked-laid : Dss (asking true) asked
 asked-laid = one (asking-allowed true) (omega arith)
 
 pub asked-reads : ReadAs (readAt Reader) (asking true) asked
@@ -69,13 +69,13 @@ unfolding FullLast asked-laid
 asked-reads = reads-layout (asking true) asked asked-laid (λ k. k) (λ e. omega arith)
 
 -- a request that wants no reply: `0006D0050007`, document 01's P4
-abbrev noReply : Structure
+abbrev pub noReply : Structure
 noReply = record { type = 5; chained = false; onError = false; same = false; correlation = 7; payload = [] }
 
-abbrev p4 : List ℕ
+abbrev pub p4 : List ℕ
 p4 = 0x00 ∷ 0x06 ∷ 0xD0 ∷ 0x05 ∷ 0x00 ∷ 0x07 ∷ []
 
-pub five-laid : Dss noReply p4
+unfoldable pub five-laid : Dss noReply p4
 five-laid =
     one
     (record {
@@ -93,7 +93,7 @@ five-refused = refuses-five noReply p4 five-laid (λ k. k) refl
 
 -- ---- a full last chunk
 
-abbrev object : List ℕ → Structure
+abbrev pub object : List ℕ → Structure
 object b = record { type = 3; chained = false; onError = false; same = false; correlation = 1; payload = b }
 
 object-allowed : (b : List ℕ) → Octets b → Allowed (object b)
@@ -106,14 +106,14 @@ object-allowed b o =
       same = λ e. absurd (true-false false e refl);
     }
 
-abbrev twoChunks : List ℕ → List ℕ → List ℕ
+abbrev pub twoChunks : List ℕ → List ℕ → List ℕ
 twoChunks x y = two 0xFFFF ++ (rest (object (x ++ y)) ++ (x ++ (two (length y + 2) ++ y)))
 
 -- two segments, whatever is in them; the last is full or it isn't
-record Cut (x y : List ℕ) : Type 0 where
-  laid : Dss (object (x ++ y)) (twoChunks x y)
-  full : length y + 2 ≡ 0x7FFF → FullLast laid
-  short : FullLast laid → length y + 2 ≡ 0x7FFF
+pub record Cut (x y : List ℕ) : Type 0 where
+  pub laid : Dss (object (x ++ y)) (twoChunks x y)
+  pub full : length y + 2 ≡ 0x7FFF → FullLast laid
+  pub short : FullLast laid → length y + 2 ≡ 0x7FFF
 
 cut : (x y : List ℕ) → length x ≡ 32761 → length y ≤ 32765 → Octets (x ++ y) → Cut x y
 unfolding FullLast EndsFull
@@ -130,13 +130,13 @@ all-same (suc n) b h zero = h
 all-same (suc n) b h (suc k) = all-same n b h k
 
 -- so many bytes C1
-abbrev filling : ℕ → List ℕ
+abbrev pub filling : ℕ → List ℕ
 filling n = replicate n 0xC1
 
-filling-length : (n : ℕ) → length (filling n) ≡ n
+pub filling-length : (n : ℕ) → length (filling n) ≡ n
 filling-length n = length-replicate {A = ℕ} n 0xC1
 
-filled : (n : ℕ) → n ≤ 32765 → Cut (filling 32761) (filling n)
+pub filled : (n : ℕ) → n ≤ 32765 → Cut (filling 32761) (filling n)
 filled n h =
     cut (filling 32761) (filling n) (filling-length 32761) (omega (arith, filling-length n))
     (octets-append (filling 32761) (filling n) (all-same 32761 0xC1 (omega arith)) (all-same n 0xC1 (omega arith)))

@@ -30,6 +30,7 @@ pub mod ReaderClauses
 pub mod KeptMeaning
 pub mod KeptFrame
 pub mod KeptRows
+pub mod KeptLayouts
 pub mod Kept
 pub mod KeptExamples
 pub mod KeptRefusals

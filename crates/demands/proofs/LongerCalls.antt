@@ -1,12 +1,13 @@
--- The rule "a frame is taken once a whole frame stands behind it", over the contracts of `next_frame` and `has_complete_frame`: the
--- same call over a longer run has the same answer, and leaves the same room.
-use Prim.Native.Nat.{ℕ}
+-- The rule "a frame is taken once a whole frame stands behind it", over the contracts of `next_frame` and `has_complete_frame`, and
+-- over the records that the exported functions' contracts cite: the same call over a longer run has the same answer, and leaves the
+-- same room.
+use Prim.Native.Nat.{ℕ, _≤_}
 use native.Mathlib.Omega.{arith}
 use mathlib.Core.Path.{_≡_, refl, sym, ap, subst, _∙_}
 use mathlib.Core.Bool.{true}
 use mathlib.Core.List.{List, _++_}
 use lib.Dec.{leb}
-use lib.ListN.{length}
+use lib.ListN.{length, getD, take}
 use contract.Lifetimes.{Lfts}
 use denote.Ref.{RefT, at-last}
 use Rattle.wire.specs.Bytes.{pick, laid}
@@ -25,7 +26,12 @@ use Rattle.dss_reader.specs.declared.FrameRead.{FrameRead}
 use Rattle.dss_reader.specs.declared.FrameRead.the-variants.{Frame as Hands, Refused as NotRead}
 use Rattle.dss_reader.proofs.DssReader.has_complete_frame.Reads as has-complete-frame
 use Rattle.dss_reader.proofs.DssReader.next_frame.Reads as next-frame
+use Rattle.gateway_words.specs.Words.{Answered}
+use Rattle.gateway_row.specs.RowWords.{frameAt}
+use Rattle.gateway_row.specs.RecordBack.{numbered}
+use Rattle.gateway_reader.specs.ReaderWords.{frameWords, ReadsFrame}
 use Rattle.demands.proofs.LongerTaken.{complete, reader-taken-stay}
+use Rattle.demands.proofs.KeptFrame.{answer-says}
 
 -- a payload that is the same gives the same answer
 given-same : (s s′ : List ℕ) (p n : ℕ) (f : Frame) → payloadOf s′ (f .segments) ≡ payloadOf s (f .segments) → given s′ p n (frame f) ≡ given s p n (frame f)
@@ -74,3 +80,28 @@ pub calls-same : (κs κs′ : Lfts 2) (κs″ : Lfts 1) (reader next : DssReade
 calls-same κs κs′ κs″ reader next run run′ room room′ t d r′ after after′ e k a c b =
     taken-same (run .now) t (reader .position) (room .now) d next (Hands d next) r′ after after′ a refl (sym c)
     (subst (λ (s : List ℕ). NextFrame s (reader .position) (room .now) r′ after′) e (subst (λ (m : List ℕ). NextFrame (run′ .now) (reader .position) m r′ after′) k b))
+
+-- ---- for a caller in C or Rust
+
+-- the answer of `has_frame`
+pub has-whole : (s : List ℕ) (p : ℕ) → _≡_ {A = ℕ} 1 (pick (complete s p) 1 0) → complete s p ≡ true
+has-whole s p e = picked (complete s p) (sym e) (λ k j. k) (λ k j. absurd (omega arith))
+
+module _ (s t : List ℕ) (p : ℕ) (room words words′ : List ℕ) (k : 8 ≤ length words) (k′ : 8 ≤ length words′) (after answer : List ℕ) (number : ℕ) (after′ answer′ : List ℕ)
+    (a : ReadsFrame s p room words 0 after answer) (c : complete s (getD (take 8 answer) 1 0) ≡ true) (b : ReadsFrame (s ++ t) p room words′ number after′ answer′) where
+  first-says : (x : FrameRead) → given s p (length room) (readAt Reader s p) ≡ x → Answered (frameWords x) words 0 answer
+  first-says x e = subst (λ (y : FrameRead). Answered (frameWords y) words 0 answer) e (a .answers)
+
+  pub words-same : (number ≡ 0) × (take 8 answer′ ≡ take 8 answer) × (after′ ≡ after)
+  words-same = go (given s p (length room) (readAt Reader s p)) refl
+    where
+      go : (x : FrameRead) → given s p (length room) (readAt Reader s p) ≡ x → (number ≡ 0) × (take 8 answer′ ≡ take 8 answer) × (after′ ≡ after)
+      go (NotRead r at) e = absurd (omega (arith, numbered (r .why), first-says (NotRead r at) e .number-is))
+      go (Hands d next) e =
+          let w : List ℕ = frameAt (next .position) d in
+          let said : take 8 answer ≡ w = answer-says refl k (first-says (Hands d next) e) in
+          let z =
+          taken-same s t p room d next (Hands d next) (given (s ++ t) p (length room) (readAt Reader (s ++ t) p)) after after′
+          (record { answers = sym e; room-is = a .room-is }) refl (subst (λ (l : List ℕ). complete s (getD l 1 0) ≡ true) said c) (record { answers = refl; room-is = b .room-is }) in
+          let n : Answered w words′ number answer′ = subst (λ (y : FrameRead). Answered (frameWords y) words′ number answer′) (z .0) (b .answers) in
+          (n .number-is, answer-says refl k′ n ∙ sym said, z .1)
