@@ -18,6 +18,7 @@ use contract.Lifetimes.{Lfts}
 use contract.Monad.{Fun, fact, fact-mono}
 use denote.Ref.{RefT, at-last}
 use Rattle.wire.specs.Bytes.{two, last, splice}
+use Rattle.answer.specs.declared.Refused.{Refused}
 use Rattle.answer.specs.declared.Laid.{Laid}
 use Rattle.answer.specs.declared.Laid.the-variants.{Bytes}
 use Rattle.layouts.specs.DdmLayout.{Ddm, Streamed}
@@ -31,7 +32,7 @@ use Rattle.ddm_builder.specs.declared.Added.the-variants.{Done}
 use Rattle.ddm_builder.proofs.DdmBuilder.add_code_point.Reads as add-code-point
 use Rattle.ddm_builder.proofs.build_ddm_object.Reads as build-ddm-object
 use Rattle.ddm_builder.proofs.DdmBuilder.build.Reads as build
-use Rattle.ddm_object.specs.Objects.{parsed}
+use Rattle.ddm_object.specs.Objects.{Object, object, parsed}
 use Rattle.ddm_object.specs.ObjectCalls.{notFound, ObjectAt, ListsParameters, u16Of, u32Of}
 use Rattle.ddm_object.specs.declared.DdmObject.{DdmObject}
 use Rattle.ddm_object.specs.declared.ObjectFound.{ObjectFound}
@@ -42,6 +43,8 @@ use Rattle.ddm_object.specs.declared.U16Found.the-variants.{Number as U16}
 use Rattle.ddm_object.specs.declared.U32Found.{U32Found}
 use Rattle.ddm_object.specs.declared.U32Found.the-variants.{Number as U32}
 use Rattle.ddm_object.proofs.object_at.Reads as object-at
+use Rattle.ddm_object.proofs.object_data.Reads as object-data
+use Rattle.ddm_object.proofs.Filled.{given-data, refused-none}
 use Rattle.ddm_object.proofs.as_u16.Reads as as-u16
 use Rattle.ddm_object.proofs.as_u32.Reads as as-u32
 use Rattle.ddm_object.proofs.find_param.Reads as find-param
@@ -148,6 +151,15 @@ module _ (cp fill : ℕ) (content room : RefT (List ℕ)) (after : List ℕ) (in
       × AnswersObject cp d (run .now) (length (built cp d)) (work .now) (words′ .now) r workAfter said′
   builder-and-read-in-words κs κt words words′ n r said said′ h h′ p q =
       build-back-said (builderOf cp fill) (content .now) (room .now) after fits inside enough (run .now) at there (words .now) n said h p (work .now) (words′ .now) r workAfter said′ h′ q
+
+-- The data themselves: `object_at`, and then `object_data` over the work area as that left it, hands back the data of the object that
+-- was given, in the run or in the work area, and nothing of one that was refused.
+pub data-are-handed-back : (κs : Lfts 2) (κt : Lfts 1) (run work lent data-part : RefT (List ℕ)) (at : ℕ) (r : ObjectFound) (workAfter : List ℕ)
+    → object-at.Post κs (run, (at, (work, tt))) r (run, (at, (at-last work workAfter, tt))) → lent .now ≡ workAfter
+    → object-data.Post κt (run, (at, (lent, tt))) data-part (run, (at, (lent, tt)))
+    → ((o : DdmObject) → r ≡ Gives o → (x : Object) × (parsed (drop at (run .now)) at ≡ object x) × (data-part .now ≡ x .content)) × ((why : Refused) → r ≡ NotGiven why → data-part .now ≡ [])
+data-are-handed-back κs κt run work lent data-part at r workAfter p e q =
+    (given-data κs κt run work lent data-part at r workAfter p e q, refused-none κs κt run work lent data-part at r workAfter p e q)
 
 -- ---- objects or parameters built one behind the other are listed, all of them and nothing else
 
