@@ -91,7 +91,7 @@ fn many(names: &mut Names, chance: &mut Chance, bytes: &[u8]) {
                 let call = calls[chance.below(calls.len())];
                 if !call.builds() {
                     let len = random_length(chance, 4096);
-                    let from = chance.below(MOST - len);
+                    let from = chance.below(MOST - len + 1);
                     a.write(call, &bytes[from..from + len]);
                     b.write(call, &bytes[from..from + len]);
                     called = written(call);
