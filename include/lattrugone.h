@@ -6,9 +6,10 @@
  * To link: the archives that bindings/archives makes and names, in any order. They need no other library.
  *
  * SLICES. A slice goes as a pointer and then a length, in elements. Of the slices that are lent to one call, none that is
- * written may overlap another. A pointer to words is aligned as uint64_t is. Where the length is 0 the pointer may be anything,
- * NULL too: nothing is read or written through it. (The proofs speak of Rust's slices, whose pointers are never null; that NULL
- * does no harm is tried out, for every function here, by bindings/c/empty.c.)
+ * written may overlap another. A pointer to words is aligned as uint64_t is. A slice's length times its element's size is at
+ * most PTRDIFF_MAX, as is so of whatever malloc gives. Where the length is 0 the pointer may be anything, NULL too: nothing is
+ * read or written through it. (The proofs speak of Rust's slices, whose pointers are never null; that NULL does no harm is tried
+ * out, for every function here, by bindings/c/empty.c.)
  *
  * WORDS. A function that can refuse returns the answer's number, and lays eight words down at the start of `words`:
  *
@@ -21,8 +22,9 @@
  * REFUSALS. A refusal's place is the first byte of the head, object or parameter that is refused; for NOT_WHOLE, NO_ROOM,
  * OUT_OF_BOUNDS and NONE it is the position or fill mark as given, 0 where the call has neither. A refusal leaves every lent
  * room, work area and row as it was. With DONE, bytes and words outside the result stay as they were. NO_ROOM is given only
- * where nothing else refuses, with what would have been enough: lend that much, call again, and it is done. So a call with
- * nothing lent asks for the need.
+ * where nothing else refuses, with what would have been enough: lend that much, call again, and it is done. The need is counted
+ * from the fill mark where a function has one (write_.., builder_add_..): lend fill mark and need. So a call with nothing lent,
+ * and fill mark 0, asks for the need.
  *
  * ROWS. A list goes into a row of uint64_t, eight words a record: row_len / 8 records have room, words beyond stay.
  *
@@ -57,7 +59,7 @@ enum lattrugone_answer {
     LATTRUGONE_HEADER_TOO_SHORT = 6,     /* extended DDM header below 4 [header length] */
     LATTRUGONE_LENGTH_TOO_SHORT = 7,     /* DSS length below 6 [the length] */
     LATTRUGONE_LENGTH_TOO_LARGE = 8,     /* extended DDM length and header above 2^64 - 1 [header length] */
-    LATTRUGONE_NO_ROOM = 9,              /* no room [bytes needed, records needed; 2^64 - 1 where more] */
+    LATTRUGONE_NO_ROOM = 9,              /* no room [bytes needed from the fill mark on, records needed; 2^64 - 1 where more] */
     LATTRUGONE_OUT_OF_BOUNDS = 10,       /* position or fill mark beyond its buffer [it, the buffer's length] */
     LATTRUGONE_NONE = 11                 /* no such parameter, or too few bytes for the number asked */
 };
@@ -179,8 +181,8 @@ uint16_t lattrugone_next_correlation_id(uint16_t id);
 /* Each of these lays a frame around the payload into the room, from the fill mark on, in one segment or in as many as it needs.
  * Continue on error is never set. `chained` is yes for any byte but 0.
  * DONE: words[WRITER_CORRELATION] as given, words[WRITER_FILL] the fill mark behind the frame.
- * In this order: BAD_TYPE at 0 (where a type is given), OUT_OF_BOUNDS where fill is beyond room_len, NO_ROOM where the frame's
- * size is more than room_len - fill; the last two at fill. */
+ * In this order: OUT_OF_BOUNDS at fill, where it is beyond room_len; BAD_TYPE at 0 (where a type is given); NO_ROOM at fill,
+ * where the frame's size is more than room_len - fill. */
 
 /* Of flags, CHAINED and SAME_CORRELATION count; of dss_type its low four bits. */
 uint8_t lattrugone_write_dss_full(uint16_t correlation_id, size_t fill, uint8_t dss_type, uint8_t flags, const uint8_t *payload,
@@ -238,9 +240,12 @@ uint8_t lattrugone_first_frame_end(const uint8_t *run, size_t run_len, uint64_t 
  * words[FRAME_PAYLOAD_LEN] how many bytes of the room are filled, words[FRAME_SEGMENTS].
  * In this order: OUT_OF_BOUNDS, NOT_WHOLE, BAD_MAGIC, BAD_TYPE, LENGTH_TOO_SHORT, NO_ROOM. words[PLACE] is the position that a
  * refusal leaves: the head that is refused, which may be one behind the frame, that is then lost (BAD_MAGIC, BAD_TYPE,
- * LENGTH_TOO_SHORT), else `at`.
+ * LENGTH_TOO_SHORT), else `at`. Salvage from `at` then, and not from that place: so the frame comes out.
  * A payload is never longer than run_len - at - 6, so a room as long as the run is always enough. Where fewer than six bytes or
- * only a part of a segment stand behind the frame, segments yet to arrive may still have belonged to it. */
+ * only a part of a segment stand behind the frame, segments yet to arrive may still have belonged to it; once a whole frame
+ * stands behind it (has_frame at words[FRAME_BEHIND]), nothing that arrives changes it.
+ * A frame whose last chunk is full (0x7FFF: a payload of 32,761 and one or more times 32,765 bytes) is taken for one that goes
+ * on: alone it is NOT_WHOLE, and with a frame behind it THAT FRAME IS TAKEN FOR ITS NEXT CHUNK and is lost, with no refusal. */
 uint8_t lattrugone_next_frame(const uint8_t *run, size_t run_len, size_t at, uint8_t *room, size_t room_len, uint64_t *words,
                               size_t words_len);
 
@@ -260,7 +265,9 @@ uint8_t lattrugone_read_all_frames(const uint8_t *run, size_t run_len, size_t at
  * refusal's is its number (BAD_MAGIC, BAD_TYPE, LENGTH_TOO_SHORT), its place, its value.
  * DONE: words[LIST_COUNT] how many entries, words[LIST_BYTES] how many bytes of the room, words[LIST_TAIL] where the walk ended:
  * from there to run_len nothing was read. The one refusal is NO_ROOM, at 0. A room as long as the run and a row of run_len / 6
- * records are always enough. */
+ * records are always enough.
+ * The lengths lead from frame to frame: where one is damaged, or bytes are missing or too many, what stands behind isn't found.
+ * A full last chunk swallows the frame behind it, as in next_frame. */
 uint8_t lattrugone_salvage(const uint8_t *run, size_t run_len, uint8_t *room, size_t room_len, uint64_t *row, size_t row_len,
                            uint64_t *words, size_t words_len);
 
@@ -310,7 +317,8 @@ uint8_t lattrugone_find_param(const uint8_t *data, size_t data_len, uint16_t cod
 /* One step over the parameters in an object's data, by measuring alone: start at 0, go on from words[OBJECT_BEHIND].
  * DONE: words[OBJECT_BEHIND] the next parameter's place, and the others that `object` has. Where words[OBJECT_IN_WORK] is 1,
  * nothing was laid down: strip_markers lays the data down, given the bytes from `at` + 4 on.
- * NONE at `at`: the parameters end here, at an unfit one or at the data's end; also where `at` is beyond the data. */
+ * In this order, each at `at`: OUT_OF_BOUNDS where `at` is beyond data_len, NONE where the parameters end, at an unfit one or at
+ * the data's end. */
 uint8_t lattrugone_param_step(const uint8_t *data, size_t data_len, size_t at, uint64_t *words, size_t words_len);
 
 /* How many bytes an object with so much data is built of: 4 and the data, and 4, 6 or 8 length bytes above 32,763,

@@ -56,6 +56,9 @@ static void heads_and_writer(void)
     IS(0, lattrugone_next_correlation_id(65535));
     ANSWERS(NO_ROOM, lattrugone_write_dss_full(1, 0, 1, 0, b, 0, b, 0, w, n));
     ANSWERS(NO_ROOM, lattrugone_write_dss(1, 0, 1, 0, b, 0, b, 0, w, n));
+    ANSWERS(LATTRUGONE_BAD_TYPE, lattrugone_write_dss(1, 0, 5, 0, b, 0, b, 0, w, n));
+    ANSWERS(LATTRUGONE_OUT_OF_BOUNDS, lattrugone_write_dss(1, 1, 5, 0, b, 0, b, 0, w, n));
+    ANSWERS(LATTRUGONE_OUT_OF_BOUNDS, lattrugone_write_dss_full(1, 1, 5, 0, b, 0, b, 0, w, n));
     ANSWERS(NO_ROOM, lattrugone_write_request(1, 0, 0, b, 0, b, 0, w, n));
     ANSWERS(NO_ROOM, lattrugone_write_object(1, 0, 0, b, 0, b, 0, w, n));
     ANSWERS(NO_ROOM, lattrugone_write_object_same_corr(1, 0, 0, b, 0, b, 0, w, n));
@@ -85,6 +88,7 @@ static void objects_and_builder(void)
     ANSWERS(DONE, lattrugone_parameters(b, 0, b, 0, r, 0, w, n));
     ANSWERS(NONE, lattrugone_find_param(b, 0, 0x2412, b, 0, w, n));
     ANSWERS(NONE, lattrugone_param_step(b, 0, 0, w, n));
+    ANSWERS(LATTRUGONE_OUT_OF_BOUNDS, lattrugone_param_step(b, 0, 1, w, n));
     IS(4, lattrugone_object_total_length(0));
     ANSWERS(NONE, lattrugone_as_u16(b, 0, w, n));
     ANSWERS(NONE, lattrugone_as_u32(b, 0, w, n));

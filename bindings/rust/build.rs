@@ -1,5 +1,5 @@
-// Links the archives that `rt staticlib` writes, one for each crate that exports: from the folder that LATTRUGONE_LIB names, or
-// from target/staticlib of the repository that this crate stands in.
+// Links the archives that `bindings/archives` makes, one for each crate that exports: from the folder that LATTRUGONE_LIB names,
+// or from target/staticlib of the repository that this crate stands in.
 use std::{env, path::PathBuf};
 
 const ARCHIVES: [&str; 8] = [
@@ -29,7 +29,8 @@ fn main() {
         let archive = folder.join(format!("lib{name}.a"));
         if !archive.exists() {
             panic!(
-                "{} isn't there: `rt staticlib {name}` writes it",
+                "{} isn't there: `bindings/archives`, run at the repository's root, makes all archives in target/staticlib; \
+                 LATTRUGONE_LIB names another folder that has them",
                 archive.display()
             );
         }

@@ -100,6 +100,11 @@ pub fn answered(lent: &mut Lent<u64>, words: usize, call: impl FnOnce(&mut [u64]
 }
 
 impl Answer {
+    /// Whether it is one that the Rust never gives: 7 and 8 where it stops or loses bits, 9 of lent room, 10 of positions.
+    pub fn only_in_document(&self) -> bool {
+        (7..=10).contains(&self.number)
+    }
+
     /// Besides, these bytes laid down.
     pub fn laying(mut self, bytes: &[u8]) -> Answer {
         self.room = Bytes(bytes.to_vec());

@@ -47,7 +47,7 @@ fn parse(tally: &mut Tally, lent: &mut Buffers, bytes: &[u8], words: usize) {
     let port = answered(&mut lent.words, words, |words| port::head_parse(run, words));
     let port = port.with_run(&lent.run, bytes);
     let rust = expected(head_words(DssHeader::parse(bytes)), words);
-    tally.same("head_parse", bytes, port, rust);
+    tally.answer("head_parse", bytes, port, rust);
 }
 
 /// Every raw length, every correlation, every magic with every format byte; runs shorter than a head, and longer ones.
@@ -117,7 +117,7 @@ fn serialize(tally: &mut Tally, lent: &mut Buffers, head: Head, room: usize, wor
         second,
         room as u8,
     ];
-    tally.same("head_serialize", &input, port, rust);
+    tally.answer("head_serialize", &input, port, rust);
 }
 
 /// Every type with every set of flags, at chosen lengths and correlations, into rooms of 0 to 8 bytes; every length; every

@@ -1,11 +1,13 @@
 //! Holds the port to the running Rust, and what the Rust doesn't have to document 01: the same input to both, and the answers,
-//! the words and every byte of each lent buffer compared. `compare [CASES] [SEED]`: how many random inputs each part tries
-//! besides those that it tries one and all, and which ones. `compare --record FILE` records the Rust's answers (record.rs).
+//! the words and every byte of each lent buffer compared; and the crate `lattrugone` to db2-proto, name by name (names.rs).
+//! `compare [CASES] [SEED]`: how many random inputs each part tries besides those that it tries one and all, and which ones.
+//! `compare --record FILE` records the Rust's answers (record.rs).
 mod answers;
 mod ddm;
 mod head;
 mod lengths;
 mod lent;
+mod names;
 mod port;
 mod reader;
 mod record;
@@ -15,6 +17,7 @@ mod stops;
 mod traffic;
 mod writer;
 
+use answers::Answer;
 // The names that the Rust's ddm.rs takes from its crate's root: its text is also a module here (ddm/rust.rs).
 use db2_proto::{codepage, ProtoError, Result};
 use std::fmt::Debug;
@@ -23,9 +26,23 @@ use std::path::Path;
 /// The captures, unpacked.
 const CAPTURES: &str = concat!(env!("CARGO_MANIFEST_DIR"), "/../target/compare/captures");
 
-/// How many were compared, and how many differed.
+/// What an answer of the port is held to.
+#[derive(Clone, Copy)]
+pub enum By {
+    /// The running Rust, or the lists beside the captures.
+    Rust,
+    /// The model of the salvage reading, which the Rust doesn't have.
+    Model,
+    /// Document 01 alone, as this program reads it.
+    Document,
+}
+
+/// How many answers of the port were held to what, and how many differences were found.
+#[derive(Default)]
 pub struct Tally {
-    compared: u64,
+    rust: u64,
+    model: u64,
+    document: u64,
     different: u64,
 }
 
@@ -33,23 +50,80 @@ pub struct Tally {
 const ENOUGH: u64 = 10;
 
 impl Tally {
-    /// Holds what the port answered to what the Rust did, or to what document 01 says where the Rust has no such answer.
+    /// Holds what the port answered to what the Rust did.
     pub fn same<A: PartialEq + Debug>(&mut self, what: &str, input: &[u8], port: A, rust: A) {
-        self.compared += 1;
-        if port != rust {
-            self.different += 1;
-            println!("different: {what} of {}", hex(input));
-            println!("  port {port:?}");
-            println!("  rust {rust:?}");
-            if self.different == ENOUGH {
-                self.end();
-            }
+        self.held(By::Rust, what, input, port, rust);
+    }
+
+    /// The same of an answer in words. The Rust has no 7 to 10: those are document 01's.
+    pub fn answer(&mut self, what: &str, input: &[u8], port: Answer, due: Answer) {
+        self.answer_by(By::Rust, what, input, port, due);
+    }
+
+    /// The same, where another than the Rust says what is due.
+    pub fn answer_by(&mut self, by: By, what: &str, input: &[u8], port: Answer, due: Answer) {
+        let by = if due.only_in_document() {
+            By::Document
+        } else {
+            by
+        };
+        self.held(by, what, input, port, due);
+    }
+
+    /// Holds what the port answered to what is due.
+    pub fn held<A: PartialEq + Debug>(
+        &mut self,
+        by: By,
+        what: &str,
+        input: &[u8],
+        port: A,
+        due: A,
+    ) {
+        *match by {
+            By::Rust => &mut self.rust,
+            By::Model => &mut self.model,
+            By::Document => &mut self.document,
+        } += 1;
+        self.equal(what, input, ("port", port), ("due", due));
+    }
+
+    /// Holds what this program itself takes for the Rust's to what the running Rust does: no answer of the port is held to
+    /// anything, so nothing is counted.
+    pub fn own<A: PartialEq + Debug>(&mut self, what: &str, input: &[u8], here: A, rust: A) {
+        self.equal(what, input, ("here", here), ("rust", rust));
+    }
+
+    fn equal<A: PartialEq + Debug>(
+        &mut self,
+        what: &str,
+        input: &[u8],
+        one: (&str, A),
+        other: (&str, A),
+    ) {
+        if one.1 == other.1 {
+            return;
+        }
+        self.different += 1;
+        println!("different: {what} of {}", hex(input));
+        for (whose, answer) in [one, other] {
+            println!("  {whose} {answer:?}");
+        }
+        if self.different == ENOUGH {
+            self.end();
         }
     }
 
-    /// The last line, and the exit.
+    /// The last lines, and the exit.
     fn end(&self) -> ! {
-        println!("{} compared, {} different", self.compared, self.different);
+        let (rust, model) = (self.rust, self.model);
+        println!(
+            "compare: {rust} held to the running Rust, {model} to the salvage reading's model"
+        );
+        println!(
+            "compare: besides, {} held to document 01 alone: 7 to 10, what is beyond a run or 2^64 - 1, demand 3",
+            self.document
+        );
+        println!("{} compared, {} different", rust + model, self.different);
         std::process::exit(if self.different == 0 { 0 } else { 1 });
     }
 }
@@ -117,12 +191,8 @@ fn record_list() -> ! {
         eprintln!("compare: --record wants a file");
         std::process::exit(2);
     };
-    let mut tally = Tally {
-        compared: 0,
-        different: 0,
-    };
-    record::record(&mut tally, &path);
-    tally.end();
+    record::record(&mut Tally::default(), &path);
+    std::process::exit(0);
 }
 
 fn main() {
@@ -134,16 +204,14 @@ fn main() {
     let seed = argument(2, 1);
     println!("compare: {cases} random inputs a part, seed {seed}");
     let mut chance = Chance(seed.wrapping_mul(0x9E37_79B9_7F4A_7C15) | 1);
-    let mut tally = Tally {
-        compared: 0,
-        different: 0,
-    };
+    let mut tally = Tally::default();
     lengths::compare(&mut tally);
     head::compare(&mut tally, &mut chance, cases);
     writer::compare(&mut tally, &mut chance, cases);
     reader::compare(&mut tally, &mut chance, cases);
     salvage::compare(&mut tally, &mut chance, cases);
     ddm::compare(&mut tally, &mut chance, cases);
+    names::compare(&mut tally, &mut chance, cases);
     traffic::compare(&mut tally, Path::new(CAPTURES));
     tally.end();
 }

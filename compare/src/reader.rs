@@ -8,7 +8,7 @@ pub mod record;
 pub mod runs;
 mod rust;
 pub mod short;
-mod walk;
+pub mod walk;
 
 use crate::{Chance, Tally};
 use case::{Held, MOST};

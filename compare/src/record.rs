@@ -7,6 +7,7 @@
 //! Before a call all bytes of the room are A5 and all words of words and row 90, so bytes and words that a call has to leave
 //! count too. An input is how many pieces it has, then these (record/input.rs).
 mod input;
+pub mod structs;
 
 use crate::answers::Answer;
 use crate::{ddm, head, reader, salvage, writer, Chance, Tally};
@@ -14,7 +15,7 @@ pub use input::counted;
 use std::collections::{BTreeMap, HashSet};
 
 /// What fills room, row and words.
-const BYTE: u8 = 0xA5;
+pub const BYTE: u8 = 0xA5;
 const WORD: u64 = 90;
 
 /// So many words are recorded, also where fewer are lent.
@@ -26,10 +27,10 @@ pub const FEW_WORDS: [usize; 5] = [0, 1, 7, 9, 12];
 /// What replay has place for.
 const BYTES: usize = 147_456;
 const ROW: usize = 512;
-const LIST: usize = 524_288;
+const LIST: usize = 655_360;
 
 /// The calls' numbers, each with how many there are.
-const CALLS: [(u64, u64); 10] = [
+const CALLS: [(u64, u64); 12] = [
     (0, 8),
     (16, 6),
     (32, 4),
@@ -40,6 +41,8 @@ const CALLS: [(u64, u64); 10] = [
     (112, 5),
     (128, 5),
     (144, 3),
+    (160, 4),
+    (176, 3),
 ];
 
 /// A call and what it is given.
@@ -76,6 +79,18 @@ impl<'a> Asked<'a> {
         Asked { row, ..self }
     }
 
+    /// The same call over a row of structs.
+    fn over_structs(self) -> Asked<'a> {
+        let call = match self.call {
+            64 => 160,
+            65 => 161,
+            96 => 162,
+            97 => 163,
+            other => panic!("call {other} fills no row"),
+        };
+        Asked { call, ..self }
+    }
+
     pub fn lent_words(&self) -> usize {
         self.words
     }
@@ -108,8 +123,8 @@ impl List {
         self.push(asked, number as u64, words, (at, room), row);
     }
 
-    /// Records an answer, once.
-    fn push(
+    /// Records an answer, once: what is returned, the words, the bytes laid down from a place of the room on, the row's words.
+    pub fn push(
         &mut self,
         asked: Asked,
         returned: u64,
@@ -171,7 +186,7 @@ fn put(bytes: &mut Vec<u8>, number: u64) {
 }
 
 /// 64-bit FNV-1a, of words with a word in the place of a byte; 0 of nothing.
-fn sum(units: impl ExactSizeIterator<Item = u64>) -> u64 {
+pub fn sum(units: impl ExactSizeIterator<Item = u64>) -> u64 {
     if units.len() == 0 {
         return 0;
     }

@@ -3,7 +3,7 @@
 use crate::answers::{answered, done, expected, refused, Answer, Words};
 use crate::lent::Lent;
 use crate::port::RowLoan;
-use crate::Tally;
+use crate::{By, Tally};
 
 /// What is listed.
 pub enum Listed {
@@ -57,10 +57,12 @@ impl Listed {
     }
 }
 
-/// A call: its name, the position that it is given, 0 where it takes none, how many words are lent, and how it is made.
+/// A call: its name, who says what is due, the position that it is given, 0 where it takes none, how many words are lent, and
+/// how it is made.
 #[derive(Clone, Copy)]
 pub struct Call {
     pub name: &'static str,
+    pub by: By,
     pub at: usize,
     pub words: usize,
     pub make: fn(usize, RowLoan) -> u8,
@@ -128,7 +130,7 @@ impl Rows {
             let numbers = [call.at, room, row].map(usize::to_be_bytes);
             let shown = &bytes[..bytes.len().min(96)];
             let input = [numbers.as_flattened(), shown].concat();
-            tally.same(call.name, &input, port, due);
+            tally.answer_by(call.by, call.name, &input, port, due);
         }
     }
 }

@@ -1,14 +1,14 @@
 //! The salvage reading, which the Rust doesn't have: the port's against a model written from document 01 alone, on damaged runs of
 //! every kind; and demand 3 directly.
 mod demand;
-mod model;
+pub mod model;
 pub mod record;
 mod runs;
 
 use crate::answers::{done, refused, Words};
 use crate::lent::Lent;
 use crate::rows::{frame_words, Call, Listed, Rows};
-use crate::{port, Chance, Tally};
+use crate::{port, By, Chance, Tally};
 use model::{Entry, Frame, Salvage};
 
 /// The longest run, and the most entries of one.
@@ -50,24 +50,18 @@ impl Held {
     /// The same with so many words lent.
     fn hold_in(&mut self, tally: &mut Tally, run: &[u8], words: usize) {
         let listed = listed(&model::salvage(run));
-        self.hold_to(tally, "salvage", run, words, &listed)
-    }
-
-    /// Holds the port to a list.
-    fn hold_to(
-        &mut self,
-        tally: &mut Tally,
-        name: &'static str,
-        run: &[u8],
-        words: usize,
-        listed: &Listed,
-    ) {
         let call = Call {
-            name,
+            name: "salvage",
+            by: By::Model,
             at: 0,
             words,
             make: |_, loan| port::salvage(loan),
         };
+        self.hold_to(tally, run, call, &listed)
+    }
+
+    /// Holds the port to a list.
+    fn hold_to(&mut self, tally: &mut Tally, run: &[u8], call: Call, listed: &Listed) {
         self.run.lend_copy(run);
         self.rows.hold(tally, &mut self.run, run, call, listed)
     }

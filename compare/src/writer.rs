@@ -1,6 +1,6 @@
 //! Module 2 of document 01: the writer. The port's functions against the Rust's DssWriter and its two builders.
 mod both;
-mod call;
+pub mod call;
 mod case;
 pub mod record;
 
@@ -15,7 +15,7 @@ use db2_proto::dss::DssWriter;
 /// The longest payloads of one to five segments; three below each are tried, and three above.
 const EDGES: [usize; 5] = [32_761, 65_526, 98_291, 131_056, 163_821];
 const AROUND: usize = 3;
-const MOST: usize = EDGES[4] + AROUND;
+pub const MOST: usize = EDGES[4] + AROUND;
 
 const CORRELATIONS: [u16; 5] = [0, 1, 255, 256, 65535];
 
@@ -41,7 +41,7 @@ pub fn compare(tally: &mut Tally, chance: &mut Chance, cases: u64) {
 }
 
 /// The lengths around each edge.
-fn around_edges() -> impl Iterator<Item = usize> {
+pub fn around_edges() -> impl Iterator<Item = usize> {
     EDGES
         .into_iter()
         .flat_map(|edge| edge - AROUND..=edge + AROUND)
@@ -140,7 +140,7 @@ fn few_words(tally: &mut Tally, held: &mut Held) {
 }
 
 /// Mostly up to 300 bytes, and once in so many times around an edge.
-fn random_length(chance: &mut Chance, times: usize) -> usize {
+pub fn random_length(chance: &mut Chance, times: usize) -> usize {
     match chance.below(times) {
         0 => EDGES[chance.below(5)] - AROUND + chance.below(2 * AROUND + 1),
         _ => chance.below(301),

@@ -1,5 +1,5 @@
-//! DRDA's framing, proved: the modules `dss` and `ddm` of db2-proto by their names and shapes, over Lattrugone's archives. A
-//! caller of db2-proto changes one line:
+//! DRDA's framing: the modules `dss` and `ddm` of db2-proto by their names and shapes, over Lattrugone's archives, whose
+//! functions are proved. A caller of db2-proto changes the lines that name where things come from; README says what else:
 //!
 //! ```
 //! // use db2_proto::dss::{DssReader, DssWriter};
@@ -24,7 +24,8 @@
 //! # What is different
 //!
 //! - Where the Rust stops or loses length bits, there is an error: [`ProtoError::LengthTooShort`] for a DSS length below 6,
-//!   [`ProtoError::LengthTooLarge`] for an extended DDM length above 2^64 - 1. No input makes a call panic.
+//!   [`ProtoError::LengthTooLarge`] for an extended DDM length above 2^64 - 1. No input makes a call panic, unless there is no
+//!   memory for what it needs.
 //! - [`ProtoError`] has the cases that these two modules give.
 //! - Left out: the string forms `as_utf8`, `as_ebcdic`, `add_string`, `add_ebcdic_string`, and the module `codepage`.
 //!   `String::from_utf8(param.data)` and `add_code_point(cp, s.as_bytes())` stand in for two of them.
@@ -35,7 +36,11 @@
 //! - [`dss::DssReader::position`], and [`dss::DssReader::next_frame_counted`], which says of how many segments a frame is.
 //! - [`port`]: the archives' functions as they are, for a caller that lends its own room and wants nothing allocated.
 //!
-//! The archives allocate nothing: this crate asks them how much room a result needs, allocates that, and lends it.
+//! # What is proved
+//!
+//! The archives' functions: what each answers, what it leaves in lent room, that it ends and touches nothing else. They allocate
+//! nothing: this crate asks them how much room a result needs, allocates that, lends it, and turns their words into these types
+//! and texts. That Rust isn't proved; it is tested, and `compare/run` holds it to db2-proto name by name.
 #![deny(unsafe_code)]
 #![warn(missing_docs)]
 
@@ -46,6 +51,8 @@
 )))]
 compile_error!("the archives are for x86-64 Linux");
 
+#[cfg(doctest)]
+mod callers;
 pub mod ddm;
 pub mod dss;
 mod error;

@@ -76,8 +76,19 @@ fn marks_beyond_their_buffer() {
     assert_eq!((port::remaining(&[], 1), port::has_frame(&[], 1)), (0, 0));
     assert_eq!(
         words(|w| port::param_step(&[], 1, w)),
-        [11, 1, 0, 0, 0, 0, 0, 0]
+        [10, 1, 1, 0, 0, 0, 0, 0]
     );
+    assert_eq!(room, [0x11; 3]);
+}
+
+#[test]
+fn a_mark_beyond_its_room_comes_before_no_type() {
+    let mut room = [0x11; 3];
+    for (fill, refusal) in [(4, [10, 4, 4, 3]), (3, [3, 0, 5, 0])] {
+        let full = words(|w| port::write_dss_full(1, fill, 5, 0, b"", &mut room, w));
+        let wrote = words(|w| port::write_dss(1, fill, 5, 0, b"", &mut room, w));
+        assert_eq!((&full[..4], &wrote[..4]), (&refusal[..], &refusal[..]));
+    }
     assert_eq!(room, [0x11; 3]);
 }
 

@@ -3,7 +3,7 @@ use super::building::{around, build, every_call, hold, input, Call};
 use super::case::Held;
 use super::rust::text::{self, DdmBuilder};
 use crate::answers::Bytes;
-use crate::{Chance, Tally};
+use crate::{By, Chance, Tally};
 
 /// Data of 0 to 300 bytes, and around the edges: the longest inline data, and that with a header.
 fn lengths() -> impl Iterator<Item = usize> {
@@ -93,7 +93,13 @@ pub fn one_behind_the_other(tally: &mut Tally, held: &mut Held, chance: &mut Cha
             }
             None => (9, filled.len() - fill),
         };
-        tally.same("adding", &numbers, (number, words[2] as usize), answer);
+        let by = if answer.0 == 0 {
+            By::Rust
+        } else {
+            By::Document
+        };
+        let port = (number, words[2] as usize);
+        tally.held(by, "adding", &numbers, port, answer);
         tally.same(
             "the room",
             &numbers,

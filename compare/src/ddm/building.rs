@@ -121,7 +121,7 @@ pub fn hold(tally: &mut Tally, held: &mut Held, call: Call, fill: usize, data: &
     let port = held.take(data, room, at, |data, room, words| {
         call.port(fill, data, room, words)
     });
-    tally.same(
+    tally.answer(
         "building",
         &input(call, &[fill, data.len(), room]),
         port,
@@ -168,7 +168,7 @@ pub fn build(
         port::builder_build(cp, fill, loan)
     });
     let numbers = [cp as usize, fill, content.len(), room];
-    tally.same(
+    tally.answer(
         "build",
         numbers.map(usize::to_be_bytes).as_flattened(),
         port,

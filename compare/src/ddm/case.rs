@@ -87,7 +87,7 @@ impl Held {
         let rust = marshaled(tally, bytes);
         let rust = self.answer(rust);
         let port = self.look(bytes, port::parse_marshaled_length);
-        tally.same("parse_marshaled_length", shown(bytes), port, rust);
+        tally.answer("parse_marshaled_length", shown(bytes), port, rust);
     }
 
     /// A number read from data; 11 where the Rust gives none.
@@ -102,7 +102,7 @@ impl Held {
         let rust = rust.map_or(refused(11, 0, &[]), |number| done(&[number]));
         let rust = self.answer(rust);
         let port = self.look(data, call);
-        tally.same(what, shown(data), port, rust);
+        tally.answer(what, shown(data), port, rust);
     }
 
     pub fn hold_strip(&mut self, tally: &mut Tally, data: &[u8]) {
@@ -115,7 +115,7 @@ impl Held {
             };
             let laid = (0, rust.bytes_laid());
             let port = self.take(data, room, laid, port::strip_markers);
-            tally.same("strip_markers", &input(data, room), port, rust);
+            tally.answer("strip_markers", &input(data, room), port, rust);
         }
     }
 
@@ -148,7 +148,7 @@ impl Held {
             };
             let laid = (0, rust.bytes_laid());
             let port = self.take(run, room, laid, &call);
-            tally.same(what, &input(run, room), port, rust);
+            tally.answer(what, &input(run, room), port, rust);
         }
     }
 }

@@ -102,8 +102,8 @@ pub fn many(tally: &mut Tally, held: &mut Held) {
     }
 }
 
-/// A random list of up to six, mostly good, at times damaged and at times cut.
-pub fn random(tally: &mut Tally, held: &mut Held, chance: &mut Chance) {
+/// A random list of up to six, mostly good, at times damaged and at times cut; and where they start.
+pub fn random_list(chance: &mut Chance) -> (Vec<u8>, Vec<usize>) {
     let mut run = Vec::new();
     let mut starts = vec![0];
     for _ in 0..chance.below(7) {
@@ -118,6 +118,12 @@ pub fn random(tally: &mut Tally, held: &mut Held, chance: &mut Chance) {
     if chance.below(3) == 0 {
         run.truncate(chance.below(run.len() + 1));
     }
+    (run, starts)
+}
+
+/// Such a list, and the object and the parameter at a place of it.
+pub fn random(tally: &mut Tally, held: &mut Held, chance: &mut Chance) {
+    let (run, starts) = random_list(chance);
     held.lent_words = 6 + chance.below(5);
     all(tally, held, &run);
     let at = starts[chance.below(starts.len())] + chance.below(6);

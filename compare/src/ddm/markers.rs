@@ -11,7 +11,10 @@ const NEXT: usize = 32_764;
 const LONG: usize = 400;
 
 /// Two bytes where a marker can stand: the two that are one, and those next to them.
-const KINDS: [[u8; 2]; 4] = [[0x7F, 0xFE], [0x7F, 0xFF], [0x7F, 0xFD], [0x80, 0x00]];
+pub const KINDS: [[u8; 2]; 4] = [[0x7F, 0xFE], [0x7F, 0xFF], [0x7F, 0xFD], [0x80, 0x00]];
+
+/// Where the first marker can stand, and the second behind one and behind none.
+pub const PLACES: [usize; 3] = [FIRST, FIRST + NEXT, FIRST + NEXT + 2];
 
 /// The places where the Rust looks for up to four markers, of which those in the mask are there.
 fn places(mask: usize) -> Vec<usize> {
@@ -24,7 +27,7 @@ fn places(mask: usize) -> Vec<usize> {
 }
 
 /// Data of so many bytes with these two bytes at those places of the mask, so far as they are there.
-fn marked(bytes: &[u8], len: usize, mask: usize, kind: [u8; 2]) -> Vec<u8> {
+pub fn marked(bytes: &[u8], len: usize, mask: usize, kind: [u8; 2]) -> Vec<u8> {
     let mut data = bytes[..len].to_vec();
     for (bit, place) in places(mask).into_iter().enumerate() {
         for (i, b) in kind.into_iter().enumerate() {

@@ -1,16 +1,16 @@
 //! Module 4 of document 01: lengths, markers, objects, parameters, the builder. The port's functions against the Rust's ddm.rs.
 mod builder;
-mod building;
+pub mod building;
 mod case;
-mod lengths;
-mod lists;
-mod markers;
+pub mod lengths;
+pub mod lists;
+pub mod markers;
 mod numbers;
 mod objects;
-mod params;
+pub mod params;
 pub mod record;
 mod rows;
-mod rust;
+pub mod rust;
 
 use crate::{Chance, Tally};
 use case::Held;

@@ -2,7 +2,7 @@
 use super::case::Held;
 use super::rust::text;
 use crate::port;
-use crate::{Chance, Tally};
+use crate::{By, Chance, Tally};
 use db2_proto::ddm::{DdmObject, DdmParam};
 
 /// The three readings of data.
@@ -74,15 +74,17 @@ pub fn total_lengths(tally: &mut Tally) {
     ];
     let around = edges.into_iter().flat_map(|edge| edge - 3..=edge + 3);
     for len in (0..70_000).chain(around) {
-        let rust = text::header_len(len).saturating_add(len);
+        let (by, due) = match text::header_len(len).checked_add(len) {
+            Some(sum) => (By::Rust, sum),
+            None => (By::Document, usize::MAX),
+        };
         let input = len.to_be_bytes();
-        tally.same("total_length", &input, port::object_total_length(len), rust);
-        tally.same(
-            "the builder's total_length",
-            &input,
+        let (object, builder) = (
+            port::object_total_length(len),
             port::builder_total_length(len),
-            rust,
         );
+        tally.held(by, "total_length", &input, object, due);
+        tally.held(by, "the builder's total_length", &input, builder, due);
     }
     // An object's own call: the data are zeros that nobody looks at.
     for len in (0..200)

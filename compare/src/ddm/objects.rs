@@ -29,7 +29,7 @@ impl Item {
         let in_work = raw_length(own) == 0x8004 && data.len() < consumed - 4;
         if !in_work {
             let last = &own[consumed - data.len()..];
-            tally.same("where data lie", shown(run), true, data == last);
+            tally.own("where data lie", shown(run), true, data == last);
         }
         Item {
             place,
@@ -85,7 +85,7 @@ pub fn object(tally: &mut Tally, run: &[u8], at: usize) -> Found {
             Err(error) => of_error(error, at),
         };
         let astray = large_object(bytes, at, &large);
-        tally.same(
+        tally.own(
             "an object whose length loses bits",
             shown(run),
             astray,
@@ -146,14 +146,14 @@ pub fn objects(tally: &mut Tally, run: &[u8]) -> Result<Vec<Item>, Words> {
         Err(refusal) => Err(*refusal),
     };
     if matches!(walked, Err(refusal) if refusal[0] == 8) {
-        tally.same(
+        tally.own(
             "objects of which one loses bits",
             shown(run),
             true,
             paper != rust,
         );
     } else {
-        tally.same::<Result<Vec<_>, Words>>("parse_ddm_objects, parse", shown(run), paper, rust);
+        tally.own::<Result<Vec<_>, Words>>("parse_ddm_objects, parse", shown(run), paper, rust);
     }
     walked
 }

@@ -1,6 +1,7 @@
 //! The Rust's parameters, and where it goes astray in their list.
 use super::objects::Item;
 use super::rust::{text, too_large};
+use crate::answers::{refused, Words};
 use crate::stops::unless_stopped;
 use crate::{shown, Tally};
 use db2_proto::ddm::DdmObject;
@@ -33,6 +34,11 @@ fn walk(data: &[u8]) -> (Vec<(usize, usize)>, Option<usize>) {
     }
 }
 
+/// How many bytes of data there are before the Rust goes astray.
+pub fn sound_len(data: &[u8]) -> usize {
+    walk(data).1.unwrap_or(data.len())
+}
+
 /// What the Rust comes to that goes astray at a place: it ends the list there, or goes on and ends it later, and stops where an
 /// end wraps.
 fn foretold(data: &[u8], mut at: usize) -> &'static str {
@@ -50,6 +56,21 @@ fn foretold(data: &[u8], mut at: usize) -> &'static str {
     }
 }
 
+/// What a step at a place comes to, which need not be a parameter's: the Rust has the data from there on; beyond them, document
+/// 01's 10.
+pub fn step(tally: &mut Tally, data: &[u8], at: usize) -> Words {
+    let Some(rest) = data.get(at..) else {
+        return refused(10, at as u64, &[at as u64, data.len() as u64]);
+    };
+    match parameters(tally, rest).items.first_mut() {
+        None => refused(11, at as u64, &[]),
+        Some(first) => {
+            first.place = at;
+            first.words(first.next())
+        }
+    }
+}
+
 /// The parameters of data.
 pub struct Params {
     pub items: Vec<Item>,
@@ -59,7 +80,7 @@ pub struct Params {
 
 pub fn parameters(tally: &mut Tally, data: &[u8]) -> Params {
     let (parts, astray) = walk(data);
-    let sound = with_data(&data[..astray.unwrap_or(data.len())]);
+    let sound = with_data(&data[..sound_len(data)]);
     let list = sound.parameters();
     if let Some(at) = astray {
         let seen = match unless_stopped(|| with_data(data).parameters()) {
@@ -70,13 +91,13 @@ pub fn parameters(tally: &mut Tally, data: &[u8]) -> Params {
             Some(same) if same == list => "the same list",
             Some(_) => "another list",
         };
-        tally.same("parameters, astray", shown(data), foretold(data, at), seen);
+        tally.own("parameters, astray", shown(data), foretold(data, at), seen);
         // It lists all before it finds one.
         let find = unless_stopped(|| with_data(data).find_param(0x2401));
         let stopped = (seen == "stopped", find.is_none());
-        tally.same("find_param, astray", shown(data), stopped.0, stopped.1);
+        tally.own("find_param, astray", shown(data), stopped.0, stopped.1);
     }
-    tally.same("parameters, how many", shown(data), parts.len(), list.len());
+    tally.own("parameters, how many", shown(data), parts.len(), list.len());
     let items = parts.into_iter().zip(list);
     let items = items.map(|((at, total), param)| Item::new(tally, data, at, param, total));
     let items = items.collect();

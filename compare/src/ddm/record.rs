@@ -2,15 +2,16 @@
 mod building;
 mod markers;
 mod numbers;
+mod parts;
 
 use super::lengths::headed;
 use super::lists::{good, unfit};
 use super::objects::{object, objects, Found, Item};
-use super::params::parameters;
+use super::params::{self, parameters};
 use super::rust::{marshaled, text};
 use crate::answers::{done, expected, refused, Words};
 use crate::reader::record::rooms;
-use crate::record::{counted, Asked, List, FEW_WORDS};
+use crate::record::{counted, structs, Asked, List, FEW_WORDS};
 use crate::rows::Listed;
 use crate::{Chance, Tally};
 
@@ -19,6 +20,10 @@ pub fn record(list: &mut List, tally: &mut Tally, chance: &mut Chance) {
     for run in runs(chance) {
         turn += 1;
         whole(list, tally, &run, turn);
+    }
+    for count in structs::AROUND {
+        let run = headed(5, 0x2401, &[0xC1]).repeat(count);
+        whole(list, tally, &run, 4);
     }
     places(list, tally);
     few_words(list, tally);
@@ -66,6 +71,7 @@ fn whole(list: &mut List, tally: &mut Tally, run: &[u8], turn: usize) {
     list.answer(Asked::new(80, &[], run), 0, &expected(length, 8));
     let first = object(tally, run, 0);
     found(list, Asked::new(82, &[0], run), 0, &first, turn);
+    parts::data(list, run, 0, &first, turn);
     let all = objects(tally, run);
     lists(list, Asked::new(96, &[], run), all, turn);
     let params = parameters(tally, run);
@@ -89,6 +95,7 @@ fn whole(list: &mut List, tally: &mut Tally, run: &[u8], turn: usize) {
         );
     }
     step(list, tally, run, 0, 8);
+    parts::walk(list, tally, run, 0, turn);
     lists(list, Asked::new(97, &[], run), Ok(params.items), turn + 1);
 }
 
@@ -128,18 +135,12 @@ fn lists(list: &mut List, asked: Asked, items: Result<Vec<Item>, Words>, turn: u
         let answer = all.answer(0, room, row, asked.lent_words());
         list.answer(asked.room(room).row(row), 0, &answer);
     }
+    structs::rows(list, asked, 0, &all, turn);
 }
 
-/// The parameter at a place: the Rust has the data from there on.
+/// The parameter at a place.
 fn step(list: &mut List, tally: &mut Tally, data: &[u8], at: usize, words: usize) {
-    let rest = data.get(at..).unwrap_or(&[]);
-    let answer = match parameters(tally, rest).items.first_mut() {
-        None => refused(11, at as u64, &[]),
-        Some(first) => {
-            first.place = at;
-            first.words(first.next())
-        }
-    };
+    let answer = params::step(tally, data, at);
     let asked = Asked::new(84, &[at as u64], data).words(words);
     list.answer(asked, 0, &expected(answer, words));
 }
@@ -153,6 +154,10 @@ fn places(list: &mut List, tally: &mut Tally) {
             let there = object(tally, &run, at);
             found(list, Asked::new(82, &[at as u64], &run), at, &there, turn);
             step(list, tally, &run, at, 8);
+            parts::data(list, &run, at, &there, turn);
+            if turn % 3 == at % 3 {
+                parts::walk(list, tally, &run, at, turn);
+            }
         }
     }
 }

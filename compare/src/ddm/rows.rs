@@ -44,19 +44,12 @@ impl Held {
     fn hold_step(&mut self, tally: &mut Tally, data: &[u8], at: usize, words: Words) {
         let rust = self.answer(words);
         let port = self.look(data, |data, words| port::param_step(data, at, words));
-        tally.same("param_step", &input(data, at), port, rust);
+        tally.answer("param_step", &input(data, at), port, rust);
     }
 
-    /// A step at a place that need not be a parameter's: the Rust has the data from there on.
+    /// A step at a place that need not be a parameter's.
     pub fn hold_step_at(&mut self, tally: &mut Tally, data: &[u8], at: usize) {
-        let rest = data.get(at..).unwrap_or(&[]);
-        let words = match params::parameters(tally, rest).items.first_mut() {
-            None => refused(11, at as u64, &[]),
-            Some(first) => {
-                first.place = at;
-                first.words(first.next())
-            }
-        };
+        let words = params::step(tally, data, at);
         self.hold_step(tally, data, at, words);
     }
 
@@ -65,7 +58,7 @@ impl Held {
         let found = params.items.iter().find(first);
         let rust = params.sound.find_param(code_point).map(|param| param.data);
         let same = rust.as_ref() == found.map(|item| &item.data);
-        tally.same("find_param, the first", shown(data), true, same);
+        tally.own("find_param, the first", shown(data), true, same);
         let found = match found {
             None => Err(refused(11, 0, &[])),
             Some(item) => Ok(item.clone()),
@@ -95,19 +88,17 @@ impl Held {
             _ => (work.len() + turn % 2, row.len().saturating_sub(1)),
         };
         for (bytes, elements) in [(work.len(), row.len()), other] {
-            let none = (Vec::new(), true);
+            let (need, count) = (work.len() as u64, items.len() as u64);
             let rust = match listed {
-                Err(refusal) => (self.answer(refusal), none),
+                Err(refusal) => self.answer(refusal),
                 Ok(_) if bytes < work.len() || elements / 8 < items.len() => {
-                    let need = [work.len() as u64, items.len() as u64];
-                    (self.answer(refused(9, 0, &need)), none)
+                    self.answer(refused(9, 0, &[need, count]))
                 }
-                Ok(_) => {
-                    let words = done(&[items.len() as u64, work.len() as u64]);
-                    (self.answer(words).laying(&work), (row.clone(), true))
-                }
+                Ok(_) => self
+                    .answer(done(&[count, need]))
+                    .laying(&work)
+                    .listing(&row),
             };
-            let laid = rust.1 .0.len();
             let lent_row = self.row.lend(elements);
             let lent = self.run.lend_copy(data);
             let lent_work = self.room.lend(bytes);
@@ -115,11 +106,10 @@ impl Held {
                 call(lent, lent_work, lent_row, words)
             });
             let port = port
-                .with_room(&self.room, 0, rust.0.bytes_laid())
+                .with_room(&self.room, 0, rust.bytes_laid())
+                .with_row(&self.row, rust.words_listed())
                 .with_run(&self.run, data);
-            let records = self.row.part(0, laid).to_vec();
-            let kept = self.row.holds_only(0, &records);
-            tally.same(what, &input(data, elements), (port, (records, kept)), rust);
+            tally.answer(what, &input(data, elements), port, rust);
         }
     }
 }

@@ -90,6 +90,6 @@ pub fn marshaled(tally: &mut Tally, bytes: &[u8]) -> Words {
         return rust;
     };
     let astray = done(&[large.wrapped as u64, large.header as u64]);
-    tally.same("a length that loses bits", shown(bytes), astray, rust);
+    tally.own("a length that loses bits", shown(bytes), astray, rust);
     refused(8, 0, &[large.header as u64])
 }

@@ -4,7 +4,7 @@ use super::rust::{next, position, Read};
 use crate::answers::{answered, done, expected, refused, Answer};
 use crate::lent::Lent;
 use crate::rows::{Call, Listed, Rows};
-use crate::{port, shown, Tally};
+use crate::{port, shown, By, Tally};
 use db2_proto::dss::DssReader;
 
 /// The longest run and the longest room.
@@ -149,7 +149,7 @@ impl Case<'_> {
     fn first(&mut self, tally: &mut Tally) {
         let rust = self.end(DssReader::first_complete_frame_len(self.run), 0);
         let port = self.call(port::first_frame_end);
-        tally.same("first_complete_frame_len", shown(self.run), port, rust);
+        tally.answer("first_complete_frame_len", shown(self.run), port, rust);
     }
 
     /// What the calls say that read nothing: what remains, whether a frame is whole, where it ends.
@@ -160,14 +160,15 @@ impl Case<'_> {
         tally.same("remaining, has_complete_frame", shown(self.run), port, rust);
         let rust = self.end(DssReader::first_complete_frame_len(&self.run[at..]), at);
         let port = self.call(|run, words| port::frame_end(run, at, words));
-        tally.same("complete_frame_len", shown(self.run), port, rust);
+        tally.answer("complete_frame_len", shown(self.run), port, rust);
     }
 
     /// The same beyond the run.
     fn look_beyond(&mut self, tally: &mut Tally, at: usize) {
         let run = self.held.run.again();
         let port = (port::remaining(run, at), port::has_frame(run, at));
-        tally.same(
+        tally.held(
+            By::Document,
             "remaining, has_complete_frame",
             shown(self.run),
             port,
@@ -175,7 +176,7 @@ impl Case<'_> {
         );
         let rust = expected(beyond(at, self.run.len()), self.words);
         let port = self.call(|run, words| port::frame_end(run, at, words));
-        tally.same("complete_frame_len", shown(self.run), port, rust);
+        tally.answer("complete_frame_len", shown(self.run), port, rust);
     }
 
     /// Reads a frame: into a room that is just enough, and in turn into a longer one, one that is short by one, an empty one.
@@ -207,7 +208,7 @@ impl Case<'_> {
         let port = port
             .with_room(lent, 0, rust.bytes_laid())
             .with_run(run, self.run);
-        tally.same("next_frame", &self.input(at, room), port, rust);
+        tally.answer("next_frame", &self.input(at, room), port, rust);
     }
 
     /// All frames from a position on.
@@ -215,6 +216,7 @@ impl Case<'_> {
         let Held { run, rows, .. } = &mut *self.held;
         let call = Call {
             name: "read_all_frames",
+            by: By::Rust,
             at,
             words: self.words,
             make: port::read_all_frames,

@@ -6,7 +6,7 @@ use super::case::beyond;
 use super::rust::{next, position, Read};
 use super::PAPER;
 use crate::answers::{done, expected, refused, Answer};
-use crate::record::{Asked, List, FEW_WORDS};
+use crate::record::{structs, Asked, List, FEW_WORDS};
 use crate::{Chance, Tally};
 use db2_proto::dss::DssReader;
 
@@ -15,6 +15,9 @@ pub fn record(list: &mut List, tally: &mut Tally, chance: &mut Chance) {
     for run in runs::all(chance) {
         turn += 1;
         whole(list, tally, &run, turn);
+    }
+    for count in structs::AROUND {
+        all_at(list, tally, &PAPER[1].repeat(count), 0, 8, 4);
     }
     positions(list, tally);
     few_words(list, tally);
@@ -81,6 +84,8 @@ fn all_at(list: &mut List, tally: &mut Tally, run: &[u8], from: usize, words: us
         let answer = frames.answer(from, room, row, words);
         list.answer(asked.room(room).row(row).words(words), 0, &answer);
     }
+    let asked = Asked::new(64, &[from as u64], run).words(words);
+    structs::rows(list, asked, from, &frames, turn);
 }
 
 /// A room and a row that are just enough for so many bytes and records, and others in turn: short, longer, none.

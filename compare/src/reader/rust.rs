@@ -102,6 +102,6 @@ pub fn next(tally: &mut Tally, reader: &mut DssReader, bytes: &[u8], from: usize
         }
         (_, _) => ("another", Read::Refused(refused(0, place, &[]))),
     };
-    tally.same("document 01 and next_frame", shown(bytes), paper, rust);
+    tally.own("document 01 and next_frame", shown(bytes), paper, rust);
     read
 }

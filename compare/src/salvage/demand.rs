@@ -4,8 +4,8 @@
 use super::Held;
 use crate::answers::{done, refused, Words};
 use crate::port::{self, Loan};
-use crate::rows::{frame_words, Listed};
-use crate::{Chance, Tally};
+use crate::rows::{frame_words, Call, Listed};
+use crate::{By, Chance, Tally};
 use db2_proto::dss::{DssType, DssWriter};
 
 /// Payloads of two segments and more whose last one isn't full, and the longest of one segment.
@@ -151,5 +151,12 @@ pub fn random(tally: &mut Tally, held: &mut Held, chance: &mut Chance) {
         records,
         payloads,
     };
-    held.hold_to(tally, "demand 3", &run, 8, &due);
+    let call = Call {
+        name: "demand 3",
+        by: By::Document,
+        at: 0,
+        words: 8,
+        make: |_, loan| port::salvage(loan),
+    };
+    held.hold_to(tally, &run, call, &due);
 }

@@ -1,12 +1,10 @@
 //! The salvage reading's answers for the list, by the model: the Rust has none.
+use super::runs::GOOD;
 use super::{listed, model};
 use crate::reader::record::{rooms, runs};
 use crate::reader::PAPER;
-use crate::record::{Asked, List, FEW_WORDS};
+use crate::record::{structs, Asked, List, FEW_WORDS};
 use crate::Chance;
-
-/// A frame that is good, behind a damaged one.
-const GOOD: &[u8] = b"\x00\x06\xD0\x02\x00\x07";
 
 /// The reader's runs, and document 01's cases of frames each with a good frame behind it, with bytes changed.
 pub fn record(list: &mut List, chance: &mut Chance) {
@@ -24,6 +22,9 @@ pub fn record(list: &mut List, chance: &mut Chance) {
             salvage(list, &run, 8, turn);
         }
     }
+    for count in structs::AROUND {
+        salvage(list, &GOOD.repeat(count), 8, 4);
+    }
     for words in FEW_WORDS {
         for first in PAPER {
             salvage(list, &[first, GOOD].concat(), words, words);
@@ -39,4 +40,6 @@ fn salvage(list: &mut List, run: &[u8], words: usize, turn: usize) {
         let asked = Asked::new(65, &[], run).room(room).row(row).words(words);
         list.answer(asked, 0, &entries.answer(0, room, row, words));
     }
+    let asked = Asked::new(65, &[], run).words(words);
+    structs::rows(list, asked, 0, &entries, turn);
 }

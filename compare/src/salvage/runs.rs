@@ -9,7 +9,7 @@ use crate::{Chance, Tally};
 const LONG: usize = 200;
 
 /// A frame that is good, behind a damaged one.
-const GOOD: &[u8] = b"\x00\x06\xD0\x02\x00\x07";
+pub const GOOD: &[u8] = b"\x00\x06\xD0\x02\x00\x07";
 
 /// A frame, an object behind it that it absorbs.
 const TWO: &[u8] = b"\x00\x0A\xD0\x02\x00\x01\x80\x04\x24\x1B\x00\x09\xD0\x53\x00\x01\x7F\xFE\xC1";

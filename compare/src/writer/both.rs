@@ -85,7 +85,7 @@ impl Both {
             .with_run(&held.payload, bytes);
         let rust = expected(answer, 8).laying(&self.room);
         let input = [self.id as usize, self.fill, len, self.room.len()].map(usize::to_be_bytes);
-        tally.same(call.named().0, input.as_flattened(), port, rust);
+        tally.answer(call.named().0, input.as_flattened(), port, rust);
         // The writer that the port hands back writes on.
         if let [0, _, id, fill] = *held.words.part(0, 4) {
             (self.id, self.fill) = (id as u16, fill as usize);

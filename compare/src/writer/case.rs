@@ -50,12 +50,12 @@ impl Case {
         input
     }
 
-    /// What the call comes to in a room of so many bytes: the Rust's refusal of the type, then 10, then 9, then its frame.
+    /// What the call comes to in a room of so many bytes: 10, then the Rust's refusal of the type, then 9, then its frame.
     pub fn expected(&self, frame: &Frame, room: usize) -> Answer {
         let mark = self.fill as u64;
         let answer = match frame {
+            _ if room < self.fill => refused(10, mark, &[mark, room as u64]),
             Err(error) => of_error(error, 0),
-            Ok(_) if room < self.fill => refused(10, mark, &[mark, room as u64]),
             Ok((bytes, _)) if room - self.fill < bytes.len() => {
                 refused(9, mark, &[bytes.len() as u64, 0])
             }
@@ -105,7 +105,7 @@ impl Case {
         let port = port
             .with_room(&held.room, self.fill, rust.bytes_laid())
             .with_run(&held.payload, bytes);
-        tally.same(self.call.named().0, &self.input(room), port, rust);
+        tally.answer(self.call.named().0, &self.input(room), port, rust);
     }
 }
 

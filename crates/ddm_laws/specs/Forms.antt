@@ -1,16 +1,12 @@
 -- How many length bytes data takes, and how long an object is.
-use Prim.Native.Nat.{ℕ, zero, suc, _+_, _^_, _≤_, _<_}
+use Prim.Native.Nat.{ℕ, _^_, _≤_, _<_}
 use native.Mathlib.Omega.{arith}
-use mathlib.Core.Path.{_≡_, refl, sym, ap, subst}
-use mathlib.Core.List.{List, _++_}
-use borrow.Author.Tests.{leb-true, leb-false, le-leb, lt-leb}
+use mathlib.Core.Path.{sym, subst}
+use borrow.Author.Tests.{leb-true, leb-false}
 use lib.Dec.{leb}
-use lib.ListN.{length, length-append}
-use Rattle.wire.specs.Bytes.{two, last}
 use Rattle.layouts.specs.DdmLayout.{Width, four, six, eight}
 use Rattle.ddm_builder.specs.Built.{lengthBytes}
 use Rattle.ddm_builder.specs.Forms.{inline-bytes, four-bytes, six-bytes, eight-bytes}
-use Rattle.wire.specs.Widths.{length-last}
 use Rattle.wire.specs.Laws.{by}
 
 pub some-bytes : {k : ℕ} → Width k → (0 < k) × (k ≤ 8)

@@ -1,21 +1,17 @@
 -- The extended number read byte by byte, refused as soon as it passes 2^64 - 1: it is the number that all the bytes spell.
-use Prim.Native.Nat.{ℕ, suc, _+_, _*_, _^_, _≤_, _<_}
+use Prim.Native.Nat.{ℕ, _+_, _*_, _^_, _≤_, _<_}
 use native.Mathlib.Omega.{arith}
 use mathlib.Core.Path.{_≡_, sym, _∙_, ap}
-use mathlib.Core.Logic.{_↔_}
 use mathlib.Core.List.{List, [], _∷_}
 use mathlib.Core.Option.{Option, none, some}
 use borrow.Author.Tests.{ltb-true, ltb-false, le-ltb, lt-ltb}
 use lib.Dec.{ltb}
-use lib.ListN.{length, getD, take, drop, take-append-drop}
-use lib.Seq.{take-suc}
 use Rattle.wire.specs.Bytes.{pick, spelled}
 use Rattle.answer.specs.declared.Refusal.the-variants.{LengthTooLarge}
 use Rattle.ddm_length.specs.Sums.{spelled-grows}
 use Rattle.ddm_length.specs.Lengths.{refuse, extendedTotal}
 use Rattle.ddm_length.specs.declared.Marshaled.{Marshaled}
 use Rattle.ddm_length.specs.declared.Marshaled.the-variants.{Takes}
-use Rattle.wire.specs.Widths.{spelled-append}
 use Rattle.wire.specs.Laws.{by, pick-yes, pick-no}
 
 -- the loop

@@ -12,11 +12,11 @@ use prog.Wp.{Heap}
 use ghost.Atoms.{Atoms}
 use contract.Lifetimes.{Lfts}
 use contract.Monad.{Fun, fact}
-use denote.Ref.{RefT, at-last, gone}
+use denote.Ref.{RefT, at-last}
 use Rattle.ddm_object.specs.Objects.{Object}
 use Rattle.ddm_object.specs.ObjectCalls.{Lists, ParsesObjects, ListsParameters}
 use Rattle.ddm_object.specs.Finding.{stepAt}
-use Rattle.ddm_object.specs.Parts.{RestAt}
+use Rattle.wire.specs.Parts.{RestAt}
 use Rattle.ddm_object.specs.declared.DdmObject.{DdmObject}
 use Rattle.ddm_object.specs.declared.ObjectFound.{ObjectFound}
 use Rattle.ddm_object.specs.declared.ObjectsFound.{ObjectsFound}
@@ -61,9 +61,9 @@ module _ (run work : RefT (List ℕ)) (at : ℕ) (r r′ : ObjectFound) (l l′ 
       → find-param.Post κs (run, (at, (work, tt))) r′ (run, (at, (at-last work l′, tt))) → (r ≡ r′) × (l ≡ l′)
   find-param-one κs p q = (p .answers ∙ sym (q .answers), p .work-is ∙ sym (q .work-is))
 
--- the data: the bytes, and where they start
+-- the data: the bytes, and where they start; run and work area are lent shared, and stay
 pub object-data-one : (κs : Lfts 1) (run work r r′ : RefT (List ℕ)) (at : ℕ)
-    → object-data.Post κs (run, (at, (work, tt))) r (run, (at, (gone work, tt))) → object-data.Post κs (run, (at, (work, tt))) r′ (run, (at, (gone work, tt)))
+    → object-data.Post κs (run, (at, (work, tt))) r (run, (at, (work, tt))) → object-data.Post κs (run, (at, (work, tt))) r′ (run, (at, (work, tt)))
     → (r .now ≡ r′ .now) × (r .ptr ≡ r′ .ptr)
 object-data-one κs run work r r′ at p q = (p .bytes-are ∙ sym (q .bytes-are), p .starts ∙ sym (q .starts))
 

@@ -2,20 +2,18 @@
 use Prim.Native.Nat.{ℕ, _+_, _-_, _≤_}
 use native.Mathlib.Omega.{arith}
 use mathlib.Core.Path.{_≡_, refl, sym, _∙_, ap, ap₂}
-use mathlib.Core.Bool.{true, false}
+use mathlib.Core.Bool.{false}
 use mathlib.Core.List.{List, []}
 use borrow.Author.Tests.{leb-true, leb-false, le-leb}
 use lib.Dec.{leb}
 use lib.ListN.{length, take, drop, length-drop}
-use lib.Seq.{drop-drop, take-at}
-use Rattle.wire.specs.Bytes.{splice, laid}
+use lib.Seq.{drop-drop}
 use Rattle.wire.specs.Laws.{picked, pick-yes, pick-no}
-use Rattle.wire.specs.Splice.{laid-fits}
 use Rattle.answer.specs.declared.Refused.{Refused}
 use Rattle.ddm_length.specs.Taken.{Taken}
 use Rattle.ddm_length.specs.Fronts.{in-order}
 use Rattle.ddm_object.specs.Objects.{Object, Parsed, object, refused, parsed}
-use Rattle.ddm_object.specs.ObjectCalls.{inWork, workOf, objectAt, givenParsed, workParsed, dataParsed}
+use Rattle.ddm_object.specs.ObjectCalls.{inWork, workOf, objectAt, givenParsed, dataParsed}
 use Rattle.ddm_object.specs.Walks.{Found, found}
 use Rattle.ddm_object.specs.Records.{RecordOf, rec-in, rec-len, out-content, out-length, short-refused}
 use Rattle.ddm_object.specs.declared.DdmObject.{DdmObject}
@@ -42,7 +40,12 @@ given-of s place size rec e =
         (λ c k. never (sym k))
     go h (refused x) q r = never (sym r)
 
--- of a refused object it is the empty part
+-- one whose data lie in the run needs no work area
+unfoldable pub given-run : (s : List ℕ) (place size : ℕ) (rec : DdmObject) → place ≤ length s → RecordOf (drop place s) place rec → rec .«in_work» ≡ false → Given s place size rec
+given-run s place size rec h f i =
+    record { within = h; of = f; fits = omega (arith, ap length (pick-no (f .of .content) [] (sym (rec-in (drop place s) place 0 [] rec f) ∙ i))) }
+
+-- of a refused object there are none
 pub refused-data : (s : List ℕ) (place size : ℕ) (x : Refused) → objectAt s place size ≡ NotGiven x → dataParsed s place size (parsed (drop place s) place) ≡ []
 unfolding objectAt
 refused-data s place size x e =
@@ -66,17 +69,6 @@ module _ (s : List ℕ) (place : ℕ) (work : List ℕ) (rec : DdmObject) (g : G
 
   rlen : rec .«data_len» ≡ length (o .content)
   rlen = rec-len (drop place s) place 0 work rec (g .of)
-
-  -- in the work area they are its first bytes
-  pub work-room : rec .«in_work» ≡ true → rec .«data_len» ≤ length work
-  work-room i = omega (arith, rlen, g .fits, ap length (pick-yes (o .content) [] (sym rin ∙ i)))
-
-  pub work-data : (after : List ℕ) → rec .«in_work» ≡ true → after ≡ workParsed s place work (parsed (drop place s) place) → take (rec .«data_len») after ≡ o .content
-  unfolding splice
-  work-data after i e =
-      let w : workOf s place o ≡ o .content = pick-yes (o .content) [] (sym rin ∙ i) in
-      ap (take (rec .«data_len»)) (e ∙ ap (workParsed s place work) (g .of .read) ∙ ap (laid work 0) w ∙ laid-fits work 0 (o .content) (omega (arith, work-room i, rlen)))
-      ∙ take-at (o .content) (drop (0 + length (o .content)) work) (rec .«data_len») (sym rlen)
 
   -- in the run they are the object's last
   module _ (i : rec .«in_work» ≡ false) where

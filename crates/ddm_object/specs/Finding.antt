@@ -1,54 +1,68 @@
 -- The loops that look for something among the parameters: the one whose data go through the work area, and the first with a
 -- code point. One step of the walk, as a walker makes it.
-use Prim.Native.Nat.{ℕ, _+_, _≤_}
+use Prim.Native.Nat.{ℕ, _+_, _≤_, _<_}
 use native.Mathlib.Omega.{arith}
 use mathlib.Core.Path.{_≡_, refl, sym, _∙_, ap}
 use mathlib.Core.Bool.{true, false}
 use mathlib.Core.List.{List, [], _∷_, _++_, append-nil}
-use borrow.Author.Tests.{eq-eqb, ne-eqb}
-use lib.Dec.{eqb}
+use borrow.Author.Tests.{eq-eqb, ne-eqb, le-leb, lt-leb}
+use lib.Dec.{leb, eqb}
 use lib.ListN.{length, drop, length-drop, drop-of-length-le}
 use lib.Seq.{drop-drop}
-use Rattle.wire.specs.Bytes.{laid}
+use Rattle.wire.specs.Bytes.{pick, laid}
 use Rattle.wire.specs.Laws.{pick-yes, pick-no}
 use Rattle.wire.specs.Splice.{laid-fits, splice-none}
+use Rattle.answer.specs.Rooms.{outOfBounds}
+use Rattle.answer.specs.declared.Refusal.the-variants.{NotFound}
 use Rattle.answer.specs.declared.Refused.{Refused}
 use Rattle.ddm_length.specs.Markers.{unmarked}
 use Rattle.ddm_object.specs.Objects.{Object, Parsed, object, refused, parsed, parameters}
 use Rattle.ddm_object.specs.ObjectCalls.{inWork, workOf, worksOf, recordOf, notFound, findFrom, workFound}
-use Rattle.ddm_object.specs.Walks.{found, takes-all, parameters-stop, parameters-step}
+use Rattle.ddm_object.specs.Walks.{found, sized, takes-all, parameters-stop, parameters-step}
 use Rattle.ddm_object.specs.Records.{RecordOf, givenIn, workGiven, rec-in, in-all, work-content, short-refused}
 use Rattle.ddm_object.specs.declared.DdmObject.{DdmObject}
 use Rattle.ddm_object.specs.declared.ObjectFound.the-variants.{Refused as NotGiven}
 use Rattle.ddm_object.specs.declared.PlaceFound.{PlaceFound}
 use Rattle.ddm_object.specs.declared.PlaceFound.the-variants.{At, Nothing}
 use Rattle.ddm_object.specs.declared.Stepped.{Stepped}
-use Rattle.ddm_object.specs.declared.Stepped.the-variants.{Param, End}
+use Rattle.ddm_object.specs.declared.Stepped.the-variants.{Param, Refused as NoStep}
 
 -- ---- one step
+
+-- 11 at the end of the list: "A refusal's place ... for 1, 9, 10 and 11 it is the position or fill mark as given"
+abbrev pub endAt : ℕ → Refused
+endAt at = record { why = NotFound; place = at }
 
 -- the parameter at a place with the next place, or the end: "anything unfit ... ends the list silently"
 abbrev pub stepParsed : List ℕ → ℕ → Parsed → Stepped
 stepParsed s at (object o) = Param (recordOf s at o) (at + o .consumed)
-stepParsed s at (refused r) = End
+stepParsed s at (refused r) = NoStep (endAt at)
 
+-- "10 comes first wherever there is a position or mark"
 unfoldable pub stepAt : List ℕ → ℕ → Stepped
 unfolding parsed
-stepAt s at = stepParsed s at (parsed (drop at s) at)
+stepAt s at = pick (leb at (length s)) (stepParsed s at (parsed (drop at s) at)) (NoStep (outOfBounds at (length s)))
+
+within : (s : List ℕ) (at : ℕ) (x : Parsed) → parsed (drop at s) at ≡ x → at ≤ length s → stepAt s at ≡ stepParsed s at x
+unfolding stepAt
+within s at x e h = pick-yes _ _ (le-leb at (length s) h) ∙ ap (stepParsed s at) e
+
+-- an object stands within the data
+inside : (s : List ℕ) (at : ℕ) (o : Object) → parsed (drop at s) at ≡ object o → at ≤ length s
+inside s at o e = omega (arith, sized (found (drop at s) at o e), length-drop at s)
 
 pub step-is : (s : List ℕ) (at : ℕ) (o : Object) → parsed (drop at s) at ≡ object o → stepAt s at ≡ Param (recordOf s at o) (at + o .consumed)
-unfolding stepAt
-step-is s at o e = ap (stepParsed s at) e
+step-is s at o e = within s at (object o) e (inside s at o e)
 
 pub step-object : (s : List ℕ) (at : ℕ) (rec : DdmObject) → RecordOf (drop at s) at rec → stepAt s at ≡ Param rec (at + rec .consumed)
 step-object s at rec f = step-is s at (f .of) (f .read) ∙ ap (λ (x : DdmObject). Param x (at + x .consumed)) (f .is)
 
-pub step-end : (s : List ℕ) (at : ℕ) (r : Refused) → parsed (drop at s) at ≡ refused r → stepAt s at ≡ End
-unfolding stepAt
-step-end s at r e = ap (stepParsed s at) e
+pub step-end : (s : List ℕ) (at : ℕ) (r : Refused) → at ≤ length s → parsed (drop at s) at ≡ refused r → stepAt s at ≡ NoStep (endAt at)
+step-end s at r h e = within s at (refused r) e h
 
-pub step-beyond : (s : List ℕ) (at : ℕ) → length s ≤ at → stepAt s at ≡ End
-step-beyond s at h = step-end s at _ (short-refused (drop at s) at (omega (arith, length-drop at s)))
+pub step-beyond : (s : List ℕ) (at : ℕ) → length s < at → stepAt s at ≡ NoStep (outOfBounds at (length s))
+unfolding stepAt
+step-beyond s at h = pick-no _ _ (lt-leb at (length s) h)
 
 -- ---- the parameters from a place on, by the record that stands there
 

@@ -67,7 +67,7 @@ abbrev pub workParsed : List ℕ → ℕ → List ℕ → Parsed → List ℕ
 workParsed s place work (object o) = laid work 0 (workOf s place o)
 workParsed s place work (refused r) = work
 
--- "of a refused object it is the empty part"
+-- an object's data where it was given, and none where it was refused: what `object_at`, and `object_data` behind it, come to
 abbrev pub dataParsed : List ℕ → ℕ → ℕ → Parsed → List ℕ
 dataParsed s place size (object o) = pick (leb (length (workOf s place o)) size) (o .content) []
 dataParsed s place size (refused r) = []
@@ -116,7 +116,7 @@ ListsParameters s = Lists s (parameters s) (λ size rows. givenObjects s size ro
 
 -- ---- finding one
 
--- 11, which has no position
+-- 11, in a call that has no position
 abbrev pub notFound : Refused
 notFound = record { why = NotFound; place = 0 }
 

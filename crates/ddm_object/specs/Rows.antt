@@ -18,7 +18,7 @@ use Rattle.ddm_object.specs.ObjectCalls.{worksOf, recordOf, recordsOf, o
 use Rattle.ddm_object.specs.Finding.{stepAt, step-is, params-here}
 use Rattle.ddm_object.specs.Walks.{parameters-stop}
 use Rattle.ddm_object.specs.declared.Stepped.{Stepped}
-use Rattle.ddm_object.specs.declared.Stepped.the-variants.{Param, End}
+use Rattle.ddm_object.specs.declared.Stepped.the-variants.{Param, Refused as NoStep}
 use Rattle.ddm_object.specs.Listing.{measuredAll, objects-parameters}
 use Rattle.ddm_object.specs.declared.DdmObject.{DdmObject}
 use Rattle.ddm_object.specs.declared.ObjectsFound.{ObjectsFound}
@@ -105,7 +105,7 @@ module _ (s : List ℕ) (os : List Object) (work : List ℕ) (rows n m : ℕ) (e
 
 abbrev pub oneMore : Stepped → (DdmObject → ℕ → List DdmObject) → List DdmObject
 oneMore (Param o next) more = more o next
-oneMore End more = []
+oneMore (NoStep r) more = []
 
 -- the records from a place on, at most n of them
 unfoldable pub recsFrom : ℕ → List ℕ → ℕ → List DdmObject

@@ -7,7 +7,8 @@ ghost use Prim.Native.Nat.{_+_, _<_, _^_};
 ghost use lib.ListN.{length};
 ghost use Rattle.ddm_object.specs.Objects.{objects, allObjects, parameters};
 ghost use Rattle.ddm_object.specs.ObjectCalls.{ObjectAt, ParsesObjects, ListsParameters, FindsParam, u16Of, u32Of, i32Of, totalLength};
-ghost use Rattle.ddm_object.specs.Parts.{DataAt, RestAt};
+ghost use Rattle.wire.specs.Parts.{RestAt};
+ghost use Rattle.ddm_object.specs.Parts.{DataAt};
 ghost use Rattle.ddm_object.specs.Finding.{PlaceIs, stepAt};
 ghost use Rattle.ddm_object.specs.Listing.{measuredAll, Walked};
 ghost use Rattle.ddm_object.specs.Rows.{walkedAs, countOf, TakesWork};
@@ -129,26 +130,29 @@ pub fn as_i32(data: &[u8]) -> I32Found
     }
 }
 
-// The data of the object at a place: a part of its own bytes, or of the work area once markers came out. Of a refused object
-// it is the empty part at the start of its bytes (with 10, at the run's end).
-pub fn object_data<'a>(run: &'a [u8], at: usize, work: &'a mut [u8]) -> &'a [u8]
+// The data of the object at a place: a part of its own bytes, or of the work area once markers came out, which `object_at` has
+// filled before. Of a refused object it is the empty part at the start of its bytes (with 10, at the run's end). Nothing is
+// written.
+pub fn object_data<'a>(run: &'a [u8], at: usize, work: &'a [u8]) -> &'a [u8]
     ensures { λ r. ⌜ DataAt (run .entry) at (work .entry) r ⌝ }
 {
-    match object_at(run, at, work) {
+    if run.len() < at {
+        let end = run.len();
+        return &run[end..end];
+    }
+    match record::record_at(run, at) {
         ObjectFound::Object(o) => {
             let n = o.data_len;
             if o.in_work {
-                let t = &work[..];
-                return &t[0..n];
+                if work.len() < n {
+                    return &run[at..at];
+                }
+                return &work[0..n];
             }
             let from = o.data_at;
             return &run[from..from + n];
         }
         ObjectFound::Refused(_) => {
-            if run.len() < at {
-                let end = run.len();
-                return &run[end..end];
-            }
             return &run[at..at];
         }
     }
@@ -268,17 +272,22 @@ pub fn find_param(data: &[u8], code_point: u16, work: &mut [u8]) -> ObjectFound
     }
 }
 
-// One step of a walk over parameters: the record at a place and the next place, or the end.
+// One step of a walk over parameters: the record at a place and the next place, or a refusal.
 pub enum Stepped {
     Param(DdmObject, usize),
-    End,
+    Refused(Refused),
 }
 
+// 10, then 11 where the list ends, both at the place.
 pub fn step_at(data: &[u8], at: usize) -> Stepped
     ensures { λ r. ⌜ r ≡ stepAt (now («data» .entry)) at ⌝ }
 {
-    if data.len() <= at {
-        return Stepped::End;
+    if data.len() < at {
+        let why = Refusal::OutOfBounds {
+            mark: at,
+            length: data.len(),
+        };
+        return Stepped::Refused(Refused { why, place: at });
     }
     match record::record_at(data, at) {
         ObjectFound::Object(o) => {
@@ -286,7 +295,8 @@ pub fn step_at(data: &[u8], at: usize) -> Stepped
             return Stepped::Param(o, next);
         }
         ObjectFound::Refused(_) => {
-            return Stepped::End;
+            let why = Refusal::NotFound;
+            return Stepped::Refused(Refused { why, place: at });
         }
     }
 }
@@ -354,7 +364,7 @@ impl<'a> Walker<'a> {
         Walker { data, at: 0 }
     }
 
-    // The parameter at its place and the next place, or the end.
+    // The parameter at its place and the next place, or a refusal.
     pub fn step(self) -> Stepped
         ensures { λ s. ⌜ s ≡ stepAt (now (self .entry .«data»)) (self .entry .at) ⌝ }
     {

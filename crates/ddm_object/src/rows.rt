@@ -101,7 +101,7 @@ pub(crate) fn fill_row(data: &[u8], n: usize, row: &mut [DdmObject]) -> usize
                 at = next;
                 i += 1;
             }
-            Stepped::End => break,
+            Stepped::Refused(_) => break,
         }
     }
     i

@@ -20,14 +20,14 @@ use Rattle.demands.specs.Demands.{Writer, StartsObject}
 use Rattle.demands.specs.AllFrames.{Alone, AllAlone, joined, AllGive, ReadsAll}
 use Rattle.demands.proofs.AllFramesBack.{reads-all}
 
-reply : Sent
+unfoldable pub reply : Sent
 reply = record { type = Reply; chained = true; same = false; correlation = 1; payload = 0xAA ∷ [] }
 
 -- same correlation, and a type that a reply absorbs: it stands by its object
-object : Bool → Sent
+unfoldable pub object : Bool → Sent
 object chained = record { type = Object; chained = chained; same = true; correlation = 1; payload = 0 ∷ 5 ∷ 0x24 ∷ 0x1B ∷ 1 ∷ [] }
 
-pub pair : Bool → List Sent
+unfoldable pub pair : Bool → List Sent
 pair chained = reply ∷ object chained ∷ []
 
 object-starts : (chained : Bool) → StartsObject (object chained)

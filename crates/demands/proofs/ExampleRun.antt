@@ -17,6 +17,7 @@ use Rattle.dss_frame.specs.Written.{Sent, written, chunks, chunksFuel}
 use Rattle.ddm_builder.specs.Built.{built, lengthBytes}
 use Rattle.demands.specs.Demands.{Sendable, StartsObject, Spoilt, LengthField, Item, good, spoilt, run, AllDue, Salvages}
 use Rattle.demands.proofs.Salvaging.{salvages}
+use Rattle.demands.proofs.SalvageKeeps.{allBytes}
 
 pub reply : Sent
 reply = record { type = Reply; chained = true; same = false; correlation = 1; payload = 0xAA ∷ [] }
@@ -80,6 +81,11 @@ three = reply-item ∷ broken-item ∷ object-item ∷ []
 pub three-run : run three ≡ 0 ∷ 7 ∷ 0xD0 ∷ 0x42 ∷ 0 ∷ 1 ∷ 0xAA ∷ 0 ∷ 7 ∷ 0x55 ∷ 0x13 ∷ 9 ∷ 9 ∷ 0xBB ∷ 0 ∷ 11 ∷ 0xD0 ∷ 0x13 ∷ 0 ∷ 1 ∷ 0 ∷ 5 ∷ 0x24 ∷ 0x1B ∷ 1 ∷ []
 unfolding three run reply-item broken-item object-item reply broken object written chunks chunksFuel
 three-run = refl
+
+-- three of them, and six bytes of payload in the good ones
+pub three-sizes : (length three ≡ 3) × (length (allBytes three) ≡ 6)
+unfolding three allBytes reply-item broken-item object-item reply object
+three-sizes = (refl, refl)
 
 -- what is handed out: the reply, a refusal at byte 7, the object; and no tail
 pub three-salvaged : salvaged (run three) ≡ record {

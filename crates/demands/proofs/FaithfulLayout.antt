@@ -1,21 +1,77 @@
--- The layout says what was sent: bytes that are laid out for two frames are laid out for frames that are the same.
-use Prim.Native.Nat.{ℕ, _+_, _%_, _≤_}
+-- Demand 2's clause on layouts: the layout says what was sent. Bytes that are laid out for two structures are laid out for
+-- structures that are the same.
+use Prim.Native.Nat.{ℕ, _+_, _*_, _/_, _%_, _≤_, _<_}
 use native.Mathlib.Omega.{arith}
 use mathlib.Core.Path.{_≡_, refl, sym, ap, ap₂, subst, _∙_}
+use mathlib.Core.Bool.{Bool, true, false}
 use mathlib.Core.List.{List, _++_}
 use lib.ListN.{length, getD, take, drop}
 use lib.Seq.{take-at, drop-at}
-use Rattle.wire.specs.Bytes.{be16, two}
-use Rattle.dss_head.specs.Heads.{typeAt, flagsOf}
-use Rattle.dss_head.specs.HeadLaws.{format-back}
-use Rattle.dss_head.specs.declared.DssFlags.{DssFlags}
-use Rattle.dss_head.specs.declared.DssType.{DssType}
-use Rattle.dss_head.specs.declared.TypeFound.{TypeFound}
-use Rattle.dss_head.specs.declared.TypeFound.the-variants.{Is}
-use Rattle.dss_frame.specs.Written.{Sent}
-use Rattle.demands.specs.Demands.{Sendable}
-use Rattle.layouts.specs.DssLayout.{Continued, ends, goes-on, Dss, one, several, rest}
-use Rattle.demands.proofs.WrittenLayout.{flagsSent, format-byte, format-at, correlation-at}
+use borrow.Author.Tests.{eq-eqb, ne-eqb}
+use Rattle.wire.specs.Bytes.{pick, be16, two}
+use Rattle.dss_head.specs.Heads.{bit}
+use Rattle.layouts.specs.DssLayout.{Structure, Allowed, Continued, ends, goes-on, Dss, one, several, format, rest}
+use Rattle.demands.specs.Layouts.{LayoutFixes}
+
+-- ---- the format byte says type and flags
+
+most : (set : Bool) → pick set 1 0 ≤ 1
+most true = omega arith
+most false = omega arith
+
+weigh : (set : Bool) (weight : ℕ) → pick set weight 0 ≡ weight * pick set 1 0
+weigh true weight = omega arith
+weigh false weight = omega arith
+
+told : (set : Bool) (weight b : ℕ) → b / weight % 2 ≡ pick set 1 0 → bit weight b ≡ set
+told true weight b e = eq-eqb (b / weight % 2) 1 e
+told false weight b e = ne-eqb (b / weight % 2) 1 (omega arith)
+
+-- what a format byte says
+pub record Told (w : Structure) (b : ℕ) : Type 0 where
+  pub type : b % 16 ≡ w .type
+  pub chained : bit 0x40 b ≡ w .chained
+  pub on-error : bit 0x20 b ≡ w .onError
+  pub same : bit 0x10 b ≡ w .same
+  pub reserved : b < 0x80
+
+pub format-told : (w : Structure) → w .type ≤ 5 → Told w (format w)
+format-told w h =
+    let c : ℕ = pick (w .chained) 1 0 in
+    let d : ℕ = pick (w .onError) 1 0 in
+    let m : ℕ = pick (w .same) 1 0 in
+    let c₁ : c ≤ 1 = most (w .chained) in
+    let d₁ : d ≤ 1 = most (w .onError) in
+    let m₁ : m ≤ 1 = most (w .same) in
+    let e : format w ≡ 64 * c + 32 * d + 16 * m + w .type = omega (arith, weigh (w .chained) 0x40, weigh (w .onError) 0x20, weigh (w .same) 0x10) in
+    let x : format w / 0x40 % 2 ≡ c = omega arith in
+    let y : format w / 0x20 % 2 ≡ d = omega arith in
+    let z : format w / 0x10 % 2 ≡ m = omega arith in
+    record {
+      type = omega arith;
+      chained = told (w .chained) 0x40 (format w) x;
+      on-error = told (w .onError) 0x20 (format w) y;
+      same = told (w .same) 0x10 (format w) z;
+      reserved = omega arith;
+    }
+
+-- bytes that are laid out for a structure keep the rules, and say its format and its correlation
+pub allowed-in : {w : Structure} {b : List ℕ} → Dss w b → Allowed w
+allowed-in (one a h) = a
+allowed-in (several a b more bytes e h c) = a
+
+format-at : {w : Structure} {b : List ℕ} → Dss w b → getD b 3 0 ≡ format w
+format-at (one a h) = refl
+format-at (several a b more bytes e h c) = refl
+
+pub told-at : {w : Structure} {b : List ℕ} → Dss w b → Told w (getD b 3 0)
+told-at {w} l = subst (Told w) (sym (format-at l)) (format-told w (allowed-in l .type .1))
+
+pub correlation-at : {w : Structure} {b : List ℕ} → Dss w b → be16 b 4 ≡ w .correlation
+correlation-at (one a h) = let k = a .correlation in omega arith
+correlation-at (several a b more bytes e h c) = let k = a .correlation in omega arith
+
+-- ---- the payload
 
 -- two lists cut at one length
 front : (n : ℕ) (a b x y : List ℕ) → length a ≡ n → length b ≡ n → a ++ x ≡ b ++ y → a ≡ b
@@ -52,38 +108,36 @@ same-continued (goes-on b r n h c) m′ d = go (cases d) (λ n′ c′. same-con
         let er : r ≡ r′ = back 32765 b b′ r r′ (omega arith) (omega arith) j in
         ap₂ (λ (x y : List ℕ). x ++ y) eb (ih n′ (subst (λ (x : List ℕ). Continued x n′) (sym er) c′)) ∙ sym k
 
-data Forms (f : Sent) (s : List ℕ) : Type 0 where
-  as-one : s ≡ two (length (f .payload) + 6) ++ (rest f ++ f .payload) → length (f .payload) + 6 ≤ 32767 → Forms f s
-  as-several : (b more bytes : List ℕ) → s ≡ two 65535 ++ (rest f ++ (b ++ bytes)) → f .payload ≡ b ++ more → length b + 6 ≡ 32767 → Continued bytes more → Forms f s
+data Forms (w : Structure) (s : List ℕ) : Type 0 where
+  as-one : s ≡ two (length (w .payload) + 6) ++ (rest w ++ w .payload) → length (w .payload) + 6 ≤ 32767 → Forms w s
+  as-several : (b more bytes : List ℕ) → s ≡ two 65535 ++ (rest w ++ (b ++ bytes)) → w .payload ≡ b ++ more → length b + 6 ≡ 32767 → Continued bytes more → Forms w s
 
-forms : {f : Sent} {s : List ℕ} → Dss f s → Forms f s
-forms (one h) = as-one refl h
-forms (several b m bytes e h c) = as-several b m bytes refl e h c
+forms : {w : Structure} {s : List ℕ} → Dss w s → Forms w s
+forms (one a h) = as-one refl h
+forms (several a b m bytes e h c) = as-several b m bytes refl e h c
 
-payloads : (f g : Sent) (s : List ℕ) → Forms f s → Forms g s → f .payload ≡ g .payload
-payloads f g s (as-one e h) (as-one k l) = ap (drop 6) (sym e ∙ k)
-payloads f g s (as-one e h) (as-several b m y k j l c) = absurd (apart (length (f .payload) + 6) _ _ h (sym e ∙ k))
-payloads f g s (as-several b m y k j l c) (as-one e h) = absurd (apart (length (g .payload) + 6) _ _ h (sym e ∙ k))
-payloads f g s (as-several b m y k j l c) (as-several b′ m′ y′ k′ j′ l′ c′) =
+payloads : (v w : Structure) (s : List ℕ) → Forms v s → Forms w s → v .payload ≡ w .payload
+payloads v w s (as-one e h) (as-one k l) = ap (drop 6) (sym e ∙ k)
+payloads v w s (as-one e h) (as-several b m y k j l c) = absurd (apart (length (v .payload) + 6) _ _ h (sym e ∙ k))
+payloads v w s (as-several b m y k j l c) (as-one e h) = absurd (apart (length (w .payload) + 6) _ _ h (sym e ∙ k))
+payloads v w s (as-several b m y k j l c) (as-several b′ m′ y′ k′ j′ l′ c′) =
     let e : b ++ y ≡ b′ ++ y′ = ap (drop 6) (sym k ∙ k′) in
     let eb : b ≡ b′ = front 32761 b b′ y y′ (omega arith) (omega arith) e in
     let ey : y ≡ y′ = back 32761 b b′ y y′ (omega arith) (omega arith) e in
     j ∙ ap₂ (λ (x z : List ℕ). x ++ z) eb (same-continued c m′ (subst (λ (x : List ℕ). Continued x m′) (sym ey) c′)) ∙ sym j′
 
--- the format byte says the frame's type and flags
-said : {f : Sent} {s : List ℕ} → Dss f s → (typeAt (getD s 3 0) 0 ≡ Is (f .type)) × (flagsOf (getD s 3 0) ≡ flagsSent f)
-said {f} w = rw (format-at w ∙ format-byte f) (format-back (f .type) (flagsSent f) 0)
+-- ---- the statement
 
-same-type : (x : TypeFound) (t u : DssType) → x ≡ Is t → x ≡ Is u → t ≡ u
-same-type x t u e k = cc
+same-structure : (v w : Structure) (s : List ℕ) → Told v (getD s 3 0) → Told w (getD s 3 0) → v .correlation ≡ w .correlation → v .payload ≡ w .payload → v ≡ w
+same-structure v w s x y c p =
+    λ i. record {
+      type = (sym (x .type) ∙ y .type) i;
+      chained = (sym (x .chained) ∙ y .chained) i;
+      onError = (sym (x .on-error) ∙ y .on-error) i;
+      same = (sym (x .same) ∙ y .same) i;
+      correlation = c i;
+      payload = p i;
+    }
 
-same-sent : (f g : Sent) → f .type ≡ g .type → f .chained ≡ g .chained → f .same ≡ g .same → f .correlation ≡ g .correlation → f .payload ≡ g .payload → f ≡ g
-same-sent f g a b c d e = λ i. record { type = a i; chained = b i; same = c i; correlation = d i; payload = e i }
-
-pub faithful : (f g : Sent) → Sendable f → Sendable g → (s : List ℕ) → Dss f s → Dss g s → f ≡ g
-faithful f g v w s x y =
-    let p = said x in
-    let q = said y in
-    let e : flagsSent f ≡ flagsSent g = sym (p .1) ∙ q .1 in
-    same-sent f g (same-type (typeAt (getD s 3 0) 0) (f .type) (g .type) (p .0) (q .0)) (ap (λ (k : DssFlags). k .chained) e) (ap (λ (k : DssFlags). k .«same_correlation») e)
-    (sym (correlation-at (v .correlation) x) ∙ correlation-at (w .correlation) y) (payloads f g s (forms x) (forms y))
+pub layout-fixes : LayoutFixes Dss
+layout-fixes v w s x y = same-structure v w s (told-at x) (told-at y) (sym (correlation-at x) ∙ correlation-at y) (payloads v w s (forms x) (forms y))

@@ -1,5 +1,5 @@
--- What the demands rule out: readers that refuse everything or answer one thing, a salvage that hands out nothing or one
--- thing, and bytes that are one frame's for all.
+-- What the demands rule out: readers that refuse everything or answer one thing, and a salvage that hands out nothing or one
+-- thing. What the statements on layouts rule out stands in LayoutExamples.
 use Prim.Native.Nat.{ℕ, zero, suc}
 use native.Mathlib.Omega.{arith}
 use mathlib.Core.Path.{_≡_, refl, sym, ap, ap₂, _∙_}
@@ -17,24 +17,22 @@ use Rattle.dss_frame.specs.Segments.{payloadOf}
 use Rattle.dss_frame.specs.Salvage.{Entry, Salvaged}
 use Rattle.dss_frame.specs.Written.{Sent}
 use Rattle.demands.specs.Demands.{Writer, Reader, Sendable, Unreadable, ReadsBack, NotWhole, Item, good, run, AllDue, Salvages}
-use Rattle.layouts.specs.DssLayout.{Dss}
-use Rattle.demands.proofs.WrittenLayout.{format-at}
 
 -- an empty frame of a type
-abbrev empty : DssType → Sent
+abbrev pub empty : DssType → Sent
 empty t = record { type = t; chained = false; same = false; correlation = 0; payload = [] }
 
-sendable : (t : DssType) → Sendable (empty t)
+pub sendable : (t : DssType) → Sendable (empty t)
 sendable t = record { correlation = omega arith; payload = λ k. omega arith }
 
 readable : (t : DssType) → Unreadable (empty t) → ⊥
 readable t u = omega (arith, u .size)
 
 -- a frame is no refusal
-frame-refused : (x : Read) (g : Frame) (r : Refused) → x ≡ frame g → x ≡ refused r → ⊥
+pub frame-refused : (x : Read) (g : Frame) (r : Refused) → x ≡ frame g → x ≡ refused r → ⊥
 frame-refused x g r e k = let z : _≡_ {A = ℕ} 0 1 = cc in omega arith
 
-same-frame : (x : Read) (g h : Frame) → x ≡ frame g → x ≡ frame h → g ≡ h
+pub same-frame : (x : Read) (g h : Frame) → x ≡ frame g → x ≡ frame h → g ≡ h
 same-frame x g h e k = cc
 
 -- no reader that always refuses reads back, whatever the writer
@@ -82,12 +80,6 @@ unfolding run
 no-fixed-salvage writes x all =
     let i : Item writes = good (empty Request) (sendable Request) (readable Request) (inl refl) in
     fixed writes (run (i ∷ [])) i (x .entries) (all [] .0) (all (i ∷ []) .0)
-
--- no bytes are every frame's
-pub no-fixed-layout : (b : List ℕ) → ((f : Sent) → Sendable f → Dss f b) → ⊥
-no-fixed-layout b all =
-    let e : _≡_ {A = ℕ} 1 2 = sym (format-at (all (empty Request) (sendable Request))) ∙ format-at (all (empty Reply) (sendable Reply)) in
-    omega arith
 
 -- a writer that reads back lays down different bytes for frames that differ in what they say
 pub separates : (writes : Writer) (reads : Reader) → ReadsBack writes reads → (f g : Sent) → Sendable f → Sendable g → (Unreadable f → ⊥) → (Unreadable g → ⊥)

@@ -56,7 +56,7 @@ stay (suc k) s t p r i e =
     go (readAt Reader s p) (readAt Reader (s ++ t) p) (read-becomes Reader s t p i) (λ f j. past s p f (readAt Reader s p) (read-past Reader s p) j) refl e
     (λ q j h. stay k s t q r j h)
   where
-    go : (x y : Read) → Becomes s t p x y → ((f : Frame) → x ≡ frame f → endOf p (f .segments) ≤ length s) → readAt Reader (s ++ t) p ≡ y
+    go : (x y : Read) → Becomes Reader s t p x y → ((f : Frame) → x ≡ frame f → endOf p (f .segments) ≤ length s) → readAt Reader (s ++ t) p ≡ y
         → andOn p x (λ q. framesFuel k s q) ≡ refusedAll r → ((q : ℕ) → q ≤ length s → framesFuel k s q ≡ refusedAll r → allFrames (s ++ t) q ≡ refusedAll r)
         → allFrames (s ++ t) p ≡ refusedAll r
     go x y (same-refusal r₁ n) in-run reads is more =
@@ -64,7 +64,7 @@ stay (suc k) s t p r i e =
     go x y (same-frame f b) in-run reads is more =
         let q : ℕ = endOf p (f .segments) in
         frames-more (s ++ t) p f reads ∙ ap (before f) (more q (in-run f refl) (rest-refused f (framesFuel k s q) r is))
-    go x y (open-frame f z ne u g) in-run reads is more =
+    go x y (open-frame f z ne u b w) in-run reads is more =
         let q : ℕ = endOf p (f .segments) in
         absurd (frames-refusal (f ∷ []) q r (sym (ap (before f) (ends k s q (unsettled-read s (f .head .«dss_type») q (in-run f refl) u))) ∙ is))
     go x y (not-whole z) in-run reads is more = absurd (frames-refusal [] p r is)

@@ -15,7 +15,7 @@ use Rattle.demands.specs.Table.{p2, p8}
 use Rattle.demands.specs.Longer.{Unsettled, few-left, beyond, Settled}
 
 -- the empty reply of P2
-abbrev reply : Frame
+abbrev pub reply : Frame
 reply = record {
   head = record { length = 6; «dss_type» = Reply; flags = record { chained = false; «continue_on_error» = false; «same_correlation» = false }; «correlation_id» = 7 };
   segments = record { at = 0; framing = 6; dropped = 0; end = 6 } ∷ [];

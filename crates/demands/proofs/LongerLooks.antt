@@ -8,20 +8,21 @@ use mathlib.Core.Bool.{Bool, true, false}
 use mathlib.Core.List.{List, _++_}
 use lib.Dec.{ltb, leb, eqb}
 use lib.ListN.{length, length-append}
-use borrow.Author.Tests.{ltb-true, ltb-false, leb-true, leb-false, eqb-false, le-ltb, lt-leb, ne-eqb}
+use borrow.Author.Tests.{ltb-true, ltb-false, leb-true, leb-false, eqb-false, le-ltb, lt-leb, eq-eqb, ne-eqb}
 use Rattle.wire.specs.Bytes.{pick, and, be16, marker}
-use Rattle.wire.specs.Laws.{pick-by, pick-no, be16-front}
+use Rattle.wire.specs.Laws.{and-split, pick-by, pick-yes, pick-no, be16-front}
 use Rattle.answer.specs.declared.Refusal.the-variants.{LengthTooShort}
 use Rattle.answer.specs.declared.Refused.{Refused}
 use Rattle.dss_head.specs.Heads.{headAt}
 use Rattle.dss_head.specs.declared.DssType.{DssType}
 use Rattle.dss_head.specs.declared.DssHeader.{DssHeader}
 use Rattle.dss_head.specs.declared.HeadFound.{HeadFound}
+use Rattle.dss_head.specs.declared.HeadFound.the-variants.{Head}
 use Rattle.dss_frame.specs.declared.Rules.{Rules}
 use Rattle.dss_frame.specs.declared.Rules.the-variants.{Reader, Salvage}
 use Rattle.dss_frame.specs.Segments.{Segment, short, frameWalk}
 use Rattle.dss_frame.specs.Reading.{Look, finished, absorbs, refuses, look, lookAt, refusal, follows, ownObject, droppedAt}
-use Rattle.demands.specs.Longer.{Unsettled, few-left, beyond, OfHead}
+use Rattle.demands.specs.Longer.{Unsettled, few-left, beyond, OfHead, Apart, continued, clear, other-type, own-object}
 use Rattle.dss_laws.specs.Looks.{Taken}
 use Rattle.demands.proofs.LongerRuns.{picks, picks-later, fits-longer, head-longer, HeadSays, finds, refuses-head, head-says, walk-few}
 
@@ -113,3 +114,29 @@ unsettled-short rules s type q (few-left h) = walk-few rules s q h
 unsettled-short rules s type q (beyond h k ne same follow far) =
     pick-by (λ w. w ≡ short) (ltb (length s - q) 6) _ _ (λ e. refl)
     (λ e. pick-no _ _ (ne-eqb (be16 s q) 65535 ne) ∙ pick-no _ _ (lt-leb (be16 s q) (length s - q) far))
+
+-- what is no segment of the frame before it finishes a look
+own-finished : (rules : Rules) (s : List ℕ) (type : DssType) (extended : Bool) (q : ℕ) (h : DssHeader) → ownObject s q ≡ true → lookAt rules s type extended q (Head h) ≡ finished
+own-finished rules s type extended q h o =
+    let l : 10 < be16 s q = ltb-true 10 (be16 s q) (and-split (ltb 10 (be16 s q)) _ o .0) in
+    let done : Look → Type 0 = λ x. x ≡ finished in
+    pick-by done (eqb (be16 s q) 65535) _ _ (λ e. refl)
+    (λ e. pick-by done (h .flags .«same_correlation») _ _
+    (λ e₁. pick-by done (follows type (h .«dss_type»)) _ _
+    (λ e₂. pick-by done (leb (be16 s q) (length s - q)) _ _ (λ e₃. pick-no _ _ (le-ltb (be16 s q) 6 (omega arith)) ∙ pick-yes _ _ o) (λ e₃. refl))
+    (λ e₂. refl))
+    (λ e₁. refl))
+
+apart-at : (rules : Rules) (s : List ℕ) (type : DssType) (extended : Bool) (q : ℕ) → Apart s type q → lookAt rules s type extended q (headAt s q) ≡ finished
+apart-at rules s type extended q (continued h k e) = ap (lookAt rules s type extended q) k ∙ pick-yes _ _ (eq-eqb (be16 s q) 65535 e)
+apart-at rules s type extended q (clear h k e) =
+    ap (lookAt rules s type extended q) k ∙ pick-by (λ (x : Look). x ≡ finished) (eqb (be16 s q) 65535) _ _ (λ e₁. refl) (λ e₁. pick-no _ _ e)
+apart-at rules s type extended q (other-type h k e) =
+    ap (lookAt rules s type extended q) k
+    ∙ pick-by (λ (x : Look). x ≡ finished) (eqb (be16 s q) 65535) _ _ (λ e₁. refl)
+    (λ e₁. pick-by (λ (x : Look). x ≡ finished) (h .flags .«same_correlation») _ _ (λ e₂. pick-no _ _ e) (λ e₂. refl))
+apart-at rules s type extended q (own-object h k e) = ap (lookAt rules s type extended q) k ∙ own-finished rules s type extended q h e
+
+pub apart-finished : (rules : Rules) (s : List ℕ) (type : DssType) (extended : Bool) (q : ℕ) → Apart s type q → look rules s type extended q ≡ finished
+unfolding look
+apart-finished rules s type extended q a = pick-by (λ (x : Look). x ≡ finished) (ltb (length s - q) 6) _ _ (λ e. refl) (λ e. apart-at rules s type extended q a)

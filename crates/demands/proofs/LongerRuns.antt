@@ -5,7 +5,7 @@ use native.Mathlib.Decide.{decLe}
 use mathlib.Core.Path.{_≡_, refl, sym, ap, ap₂, subst, _∙_}
 use mathlib.Core.Logic.{inl, inr}
 use mathlib.Core.Bool.{Bool, true, false}
-use mathlib.Core.List.{List, [], _∷_, _++_, append-assoc, append-nil}
+use mathlib.Core.List.{List, [], _∷_, _++_, append-nil}
 use lib.Dec.{ltb, leb, eqb}
 use lib.ListN.{length, getD, take, drop, length-append, length-drop}
 use lib.Seq.{drop-append-le}
@@ -22,7 +22,7 @@ use Rattle.dss_head.specs.declared.HeadFound.{HeadFound}
 use Rattle.dss_head.specs.declared.HeadFound.the-variants.{Head, Refused as Refuses}
 use Rattle.dss_frame.specs.Rules.{chunkUnder}
 use Rattle.dss_frame.specs.declared.Rules.{Rules}
-use Rattle.dss_frame.specs.Segments.{Segment, payloadOf, bytesOf, Walk, whole, short, dead, behind, continuation, first, step, walkFuel, continuations, frameWalk}
+use Rattle.dss_frame.specs.Segments.{Segment, payloadOf, Walk, whole, short, dead, behind, continuation, first, step, walkFuel, continuations, frameWalk}
 use Rattle.demands.specs.Longer.{OfHead}
 use Rattle.dss_laws.specs.Ends.{payload-append}
 use Rattle.dss_laws.specs.HeadLaws.{head-moved}

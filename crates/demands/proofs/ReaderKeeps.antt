@@ -77,7 +77,7 @@ unfoldable pub payloads : List Sent → List ℕ
 payloads [] = []
 payloads (f ∷ fs) = f .payload ++ payloads fs
 
-given-payloads : (s : List ℕ) (fs : List Sent) (gs : List Frame) → AllGive s fs gs → (payloadsOf s gs ≡ payloads fs) × (length gs ≡ length fs)
+pub given-payloads : (s : List ℕ) (fs : List Sent) (gs : List Frame) → AllGive s fs gs → (payloadsOf s gs ≡ payloads fs) × (length gs ≡ length fs)
 unfolding AllGive payloads payloadsOf
 given-payloads s [] [] a = (refl, refl)
 given-payloads s [] (g ∷ gs) a = absurd a

@@ -30,13 +30,13 @@ unfoldable pub allBytes : List (Item written) → List ℕ
 allBytes [] = []
 allBytes (i ∷ is) = dueBytes i ++ allBytes is
 
-due-bytes : (s : List ℕ) (p : ℕ) (i : Item written) (x : Read) → DueRead s p i x → bytesOf s x ≡ dueBytes i
+pub due-bytes : (s : List ℕ) (p : ℕ) (i : Item written) (x : Read) → DueRead s p i x → bytesOf s x ≡ dueBytes i
 due-bytes s p (good f _ _ _) (frame g) d = d .payload
 due-bytes s p (good f _ _ _) (refused r) d = absurd d
 due-bytes s p (spoilt f _ _ _ b x) (frame g) d = absurd d
 due-bytes s p (spoilt f _ _ _ b x) (refused r) d = refl
 
-all-bytes : (s : List ℕ) (p : ℕ) (is : List (Item written)) (es : List Entry) → AllDue s p is es → (salvagedBytes s es ≡ allBytes is) × (length es ≡ length is)
+pub all-bytes : (s : List ℕ) (p : ℕ) (is : List (Item written)) (es : List Entry) → AllDue s p is es → (salvagedBytes s es ≡ allBytes is) × (length es ≡ length is)
 unfolding AllDue allBytes salvagedBytes
 all-bytes s p [] [] d = (refl, refl)
 all-bytes s p [] (e ∷ es) d = absurd d

@@ -28,7 +28,7 @@ use Rattle.demands.proofs.SalvageKeeps.{allBytes, recovers}
 sized : DssType → Bool → ℕ → Sent
 sized t same n = record { type = t; chained = false; same = same; correlation = 1; payload = replicate n 0xC1 }
 
-alike : (n k : ℕ) → getD (replicate n 0xC1) k 0 < 256
+pub alike : (n k : ℕ) → getD (replicate n 0xC1) k 0 < 256
 alike zero k = omega arith
 alike (suc n) zero = omega arith
 alike (suc n) (suc k) = alike n k

@@ -2,7 +2,7 @@
 -- becomes lending a longer run with the same position". Statements about any reader.
 use Prim.Native.Nat.{ℕ, _-_, _≤_, _<_}
 use mathlib.Core.Path.{_≡_}
-use mathlib.Core.Bool.{Bool, true}
+use mathlib.Core.Bool.{Bool, true, false}
 use mathlib.Core.Logic.{_⊎_}
 use mathlib.Core.List.{List, _++_}
 use lib.ListN.{length}
@@ -16,7 +16,7 @@ use Rattle.dss_head.specs.declared.DssHeader.{DssHeader}
 use Rattle.dss_head.specs.declared.HeadFound.the-variants.{Head}
 use Rattle.dss_frame.specs.declared.Rules.{Rules}
 use Rattle.dss_frame.specs.Segments.{Segment, payloadOf, endOf, dead, frameWalk}
-use Rattle.dss_frame.specs.Reading.{Read, frame, refused, Frame, follows, withChained}
+use Rattle.dss_frame.specs.Reading.{Read, frame, refused, Frame, follows, ownObject, withChained}
 use Rattle.dss_frame.specs.Frames.{refusedAll}
 use Rattle.demands.specs.Demands.{Reader}
 use Rattle.demands.specs.AllFrames.{AllReader}
@@ -64,3 +64,56 @@ DeadStays rules reads = (s t : List ℕ) (p q : ℕ) → p ≤ length s → fram
 -- Where all frames are read, a refusal stays as it is: a frame before a refused head is settled by it.
 abbrev pub AllRefusalsStay : AllReader → Type 0
 AllRefusalsStay reads = (s t : List ℕ) (p : ℕ) (r : Refused) → p ≤ length s → reads s p ≡ refusedAll r → reads (s ++ t) p ≡ refusedAll r
+
+-- ---- when a frame may be taken while bytes still come in
+
+-- says whether a whole frame stands at a place of a run, as `has_complete_frame` does
+abbrev pub Complete : Type 0
+Complete = List ℕ → ℕ → Bool
+
+-- A frame with a whole frame behind it is settled.
+abbrev pub WholeBehindSettles : Complete → Type 0
+WholeBehindSettles complete = (s : List ℕ) (p : ℕ) (f : Frame) → complete s (endOf p (f .segments)) ≡ true → Settled s p f
+
+-- The rule "a frame is taken once a whole frame stands behind it": it then stays as it is whatever bytes follow, and so does
+-- its payload.
+abbrev pub TakenStay : Reader → Complete → Type 0
+TakenStay reads complete =
+    (s t : List ℕ) (p : ℕ) (f : Frame) → reads s p ≡ frame f → complete s (endOf p (f .segments)) ≡ true
+    → (reads (s ++ t) p ≡ frame f) × (payloadOf (s ++ t) (f .segments) ≡ payloadOf s (f .segments))
+
+-- a frame read in s is the beginning of one read over a longer run: type and correlation are the same, and its payload is the
+-- first of the other's
+pub record Begins (s t : List ℕ) (f g : Frame) : Type 0 where
+  pub type : g .head .«dss_type» ≡ f .head .«dss_type»
+  pub correlation : g .head .«correlation_id» ≡ f .head .«correlation_id»
+  pub more : List ℕ
+  pub payload : payloadOf (s ++ t) (g .segments) ≡ payloadOf s (f .segments) ++ more
+
+-- What it costs to wait: nothing that was read. Asked again with more bytes, a frame that waits is the beginning of what is
+-- read, or a head at its end or behind it is refused, 2, 3 or 7; it is never 1 again.
+abbrev pub WaitingLosesNothing : Reader → Type 0
+WaitingLosesNothing reads =
+    (s t : List ℕ) (p : ℕ) (f : Frame) → reads s p ≡ frame f
+    → ((g : Frame) → reads (s ++ t) p ≡ frame g → Begins s t f g) × ((r : Refused) → reads (s ++ t) p ≡ refused r → OfHead r × (endOf p (f .segments) ≤ r .place))
+
+-- And where such a head is refused, what salvage reads at the same place is a frame that it is the beginning of. (A frame in
+-- several segments of its own is settled, and doesn't wait.)
+abbrev pub SalvageKeepsWaiting : Reader → Reader → Type 0
+SalvageKeepsWaiting reads salvages =
+    (s t : List ℕ) (p : ℕ) (f : Frame) → (be16 s p ≡ 0xFFFF → ⊥) → reads s p ≡ frame f
+    → record { read : Frame; is : salvages (s ++ t) p ≡ frame read; begins : Begins s t f read }
+
+-- what stands at q is no segment of a frame of that type before it, by document 01's list: "Raw 0xFFFF, or same correlation
+-- clear", another type, or "an object of its own"
+pub data Apart (s : List ℕ) (type : DssType) (q : ℕ) : Type 0 where
+  continued : (h : DssHeader) → headAt s q ≡ Head h → be16 s q ≡ 0xFFFF → Apart s type q
+  clear : (h : DssHeader) → headAt s q ≡ Head h → h .flags .«same_correlation» ≡ false → Apart s type q
+  other-type : (h : DssHeader) → headAt s q ≡ Head h → follows type (h .«dss_type») ≡ false → Apart s type q
+  own-object : (h : DssHeader) → headAt s q ≡ Head h → ownObject s q ≡ true → Apart s type q
+
+-- A frame taken early is what would have been read, if what comes behind it is such.
+abbrev pub EarlyStay : Reader → Type 0
+EarlyStay reads =
+    (s t : List ℕ) (p : ℕ) (f : Frame) → reads s p ≡ frame f → Apart (s ++ t) (f .head .«dss_type») (endOf p (f .segments))
+    → (reads (s ++ t) p ≡ frame f) × (payloadOf (s ++ t) (f .segments) ≡ payloadOf s (f .segments))

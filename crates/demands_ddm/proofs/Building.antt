@@ -4,29 +4,29 @@ use native.Mathlib.Omega.{arith}
 use mathlib.Core.Path.{_≡_, refl, sym, ap, subst, subst₂, _∙_}
 use mathlib.Core.Bool.{Bool, false}
 use mathlib.Core.List.{List, [], _++_, append-nil}
-use borrow.Author.Tests.{le-leb, ne-eqb}
+use borrow.Author.Tests.{le-leb, eqb-true}
+use lib.Dec.{eqb}
 use lib.ListN.{length, take, drop}
 use lib.Seq.{take-at, drop-at}
 use Rattle.wire.specs.Bytes.{and, be16, splice}
-use Rattle.wire.specs.Laws.{pick-yes}
+use Rattle.wire.specs.Laws.{by, and-no, pick-yes}
 use Rattle.wire.specs.Octets.{Octets}
 use Rattle.wire.specs.Splice.{laid-fits}
 use Rattle.answer.specs.Rooms.{laidAtStart, Lays}
 use Rattle.answer.specs.declared.Laid.{Laid}
-use Rattle.layouts.specs.DdmLayout.{Ddm}
+use Rattle.layouts.specs.DdmLayout.{Documented, Ddm, Streamed}
 use Rattle.ddm_length.specs.Markers.{hasMarkers}
 use Rattle.ddm_builder.specs.Built.{built}
 use Rattle.ddm_builder.specs.Builder.{objectOf, Builds}
 use Rattle.ddm_builder.specs.declared.DdmBuilder.{DdmBuilder}
-use Rattle.ddm_object.specs.ObjectCalls.{ObjectAt}
+use Rattle.ddm_object.specs.ObjectCalls.{inWork, ObjectAt}
 use Rattle.ddm_object.specs.Data.{Given, given-of, run-data}
 use Rattle.ddm_object.specs.Records.{rec-in}
 use Rattle.ddm_object.specs.declared.DdmObject.{DdmObject}
 use Rattle.ddm_object.specs.declared.ObjectFound.{ObjectFound}
 use Rattle.ddm_object.specs.declared.ObjectFound.the-variants.{Object as Gives}
 use Rattle.ddm_laws.specs.Layout.{built-ddm}
-use Rattle.ddm_laws.specs.Complete.{Documented, short, long, read-ddm}
-use Rattle.ddm_laws.specs.Forms.{some-bytes}
+use Rattle.ddm_laws.specs.Complete.{read-ddm}
 use Rattle.demands_ddm.specs.Reading.{LaidFirst, dataOf, headerOf, ReadsAs}
 use Rattle.demands_ddm.proofs.LayoutRead.{built-read}
 
@@ -70,21 +70,22 @@ module _ (cp : ℕ) (d room : List ℕ) (small : cp < 65536) (few : length d < 2
     pub part-parsed : ObjectAt (take (length (built cp d)) after) 0 work x workAfter → ReadsAs cp d (take (length (built cp d)) after) 0 (headerOf d) work x workAfter
     part-parsed p = built-read cp d small few (take (length (built cp d)) after) [] 0 (w .first ∙ sym (append-nil (built cp d))) work x workAfter p
 
--- ---- and the other way: what is read has the layout, for the lengths that the volume knows
+-- ---- and the other way: what is read has the layout, for the lengths that the volume knows, and without markers
 
-not-all : {raw : ℕ} → Documented raw → raw ≡ 0x8004 → ⊥
-not-all (short h) e = omega arith
-not-all (long w q) e = omega (arith, some-bytes w)
+module _ (s : List ℕ) (place : ℕ) (work : List ℕ) (o : DdmObject) (after : List ℕ) (doc : Documented (be16 (drop place s) 0)) (none : Streamed (drop place s) → hasMarkers (drop 4 (drop place s)) ≡ false) where
+  run-only : inWork (drop place s) ≡ false
+  run-only =
+      by (eqb (be16 (drop place s) 0) 0x8004)
+      (λ t. ap (and (eqb (be16 (drop place s) 0) 0x8004)) (none (eqb-true (be16 (drop place s) 0) 0x8004 t)) ∙ and-no (eqb (be16 (drop place s) 0) 0x8004))
+      (λ t. ap (λ (n : Bool). and n (hasMarkers (drop 4 (drop place s)))) t)
 
-pub read-layout : (s : List ℕ) (place : ℕ) (work : List ℕ) (o : DdmObject) (after : List ℕ) → Octets (drop place s) → Documented (be16 (drop place s) 0)
-    → ObjectAt s place work (Gives o) after → (o .«in_work» ≡ false) × Ddm (o .«code_point») (dataOf s o) (take (o .consumed) (drop place s))
-read-layout s place work o after oct doc p =
-    let b : List ℕ = drop place s in
-    let g : Given s place (length work) o = given-of s place (length work) o (sym (p .answers)) in
-    let i : o .«in_work» ≡ false =
-    rec-in b place 0 work o (g .of) ∙ ap (λ (t : Bool). and t (hasMarkers (drop 4 b))) (ne-eqb (be16 b 0) 0x8004 (not-all doc)) in (
-      i,
-      subst (λ (n : ℕ). Ddm (o .«code_point») (dataOf s o) (take n b)) (ap (λ (x : DdmObject). x .consumed) (g .of .is))
-          (subst₂ (λ (c : ℕ) (d : List ℕ). Ddm c d (take (g .of .of .consumed) b)) (ap (λ (x : DdmObject). x .«code_point») (g .of .is)) (sym (run-data s place work o g i))
-          (read-ddm b place (g .of .of) oct (g .of .read) doc)),
-    )
+  pub read-layout : Octets (drop place s) → ObjectAt s place work (Gives o) after → (o .«in_work» ≡ false) × Ddm (o .«code_point») (dataOf s o) (take (o .consumed) (drop place s))
+  read-layout oct p =
+      let b : List ℕ = drop place s in
+      let g : Given s place (length work) o = given-of s place (length work) o (sym (p .answers)) in
+      let i : o .«in_work» ≡ false = rec-in b place 0 work o (g .of) ∙ run-only in (
+        i,
+        subst (λ (n : ℕ). Ddm (o .«code_point») (dataOf s o) (take n b)) (ap (λ (x : DdmObject). x .consumed) (g .of .is))
+            (subst₂ (λ (c : ℕ) (d : List ℕ). Ddm c d (take (g .of .of .consumed) b)) (ap (λ (x : DdmObject). x .«code_point») (g .of .is)) (sym (run-data s place work o g i))
+            (read-ddm b place (g .of .of) oct (g .of .read) doc none)),
+      )

@@ -8,7 +8,7 @@ use Rattle.wire.specs.Bytes.{last, spelled, splice, laid}
 use Rattle.wire.specs.Octets.{octets-tested}
 use Rattle.answer.specs.Numbers.{numberOf}
 use Rattle.answer.specs.declared.Laid.the-variants.{Bytes}
-use Rattle.layouts.specs.DdmLayout.{Ddm}
+use Rattle.layouts.specs.DdmLayout.{short, Ddm}
 use Rattle.ddm_length.specs.Lengths.{measured, marshaled}
 use Rattle.ddm_length.specs.Markers.{unmarked, keptFuel}
 use Rattle.ddm_builder.specs.Built.{built, lengthBytes}
@@ -16,7 +16,6 @@ use Rattle.ddm_object.specs.Objects.{parsed, parameters, parametersFuel, allObj
 use Rattle.ddm_object.specs.ObjectCalls.{objectAt, workParsed, ObjectAt, recordsOf, worksOf, givenObjects, givenAll, notFound, findFrom}
 use Rattle.ddm_object.specs.declared.ObjectFound.the-variants.{Object as Gives, Refused as NotGiven}
 use Rattle.ddm_object.specs.declared.ObjectsFound.the-variants.{Objects}
-use Rattle.ddm_laws.specs.Complete.{short}
 use Rattle.ddm_laws.specs.Lists.{joined, Fit}
 use Rattle.demands_ddm.specs.Reading.{LaidFirst, plain, recordsBuilt, Lacks}
 use Rattle.demands_ddm.proofs.LayoutRead.{six-read, eight-read}
@@ -37,7 +36,7 @@ inline-parsed = refl
 pub inline-layout : Ddm 0x2412 (0xC1 ∷ []) (0x00 ∷ 0x05 ∷ 0x24 ∷ 0x12 ∷ 0xC1 ∷ [])
 unfolding objectAt parsed measured marshaled laid
 inline-layout =
-    read-layout (0x00 ∷ 0x05 ∷ 0x24 ∷ 0x12 ∷ 0xC1 ∷ []) 0 [] (plain 0 0x2412 4 1) [] (octets-tested (0x00 ∷ 0x05 ∷ 0x24 ∷ 0x12 ∷ 0xC1 ∷ []) refl) (short (omega arith))
+    read-layout (0x00 ∷ 0x05 ∷ 0x24 ∷ 0x12 ∷ 0xC1 ∷ []) 0 [] (plain 0 0x2412 4 1) [] (short (omega arith)) (λ e. absurd (omega arith)) (octets-tested (0x00 ∷ 0x05 ∷ 0x24 ∷ 0x12 ∷ 0xC1 ∷ []) refl)
     (record { answers = refl; work-is = refl })
     .1
 

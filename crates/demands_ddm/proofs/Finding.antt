@@ -16,10 +16,9 @@ use Rattle.ddm_object.specs.ObjectCalls.{workOf, notFound, findFrom, workFound,
 use Rattle.ddm_object.specs.Reads.{made}
 use Rattle.ddm_object.specs.declared.ObjectFound.{ObjectFound}
 use Rattle.ddm_object.specs.declared.ObjectFound.the-variants.{Object as Gives, Refused as NotGiven}
-use Rattle.ddm_laws.specs.Layout.{built-ddm}
 use Rattle.ddm_laws.specs.Lists.{joined, objectsOf, Fit, parameters-joined}
 use Rattle.demands_ddm.specs.Reading.{plain, dataOf, headerOf, ReadsAs, Lacks, First}
-use Rattle.demands_ddm.proofs.LayoutRead.{nothing-laid, no-work, built-record}
+use Rattle.demands_ddm.proofs.LayoutRead.{nothing-laid, built-no-work, built-record}
 
 -- ---- none
 
@@ -53,7 +52,7 @@ unfolding Lacks findFrom workFound
 reached cp d [] rest g k s work place e =
     let t : eqb cp cp ≡ true = eq-eqb cp cp refl in
     let b = built-record cp d (g .0) (g .1) s (joined rest) place e in
-    let w : workOf s place (made cp d (length (built cp d))) ≡ [] = no-work cp d (built cp d) (built-ddm cp d (g .1)) (g .0) (g .1) s (joined rest) place e in
+    let w : workOf s place (made cp d (length (built cp d))) ≡ [] = built-no-work cp d (g .0) (g .1) s (joined rest) place e in
     let z : place ≡ place + 0 = omega arith in (
       pick-yes _ _ t
           ∙ pick-yes _ _ (ap (λ (v : List ℕ). leb (length v) (length work)) w ∙ le-leb 0 (length work) (omega arith))

@@ -17,22 +17,21 @@ use Rattle.ddm_object.specs.ObjectCalls.{worksOf, recordsOf, objectsFit, givenO
 use Rattle.ddm_object.specs.declared.DdmObject.{DdmObject}
 use Rattle.ddm_object.specs.declared.ObjectsFound.{ObjectsFound}
 use Rattle.ddm_object.specs.declared.ObjectsFound.the-variants.{Objects}
-use Rattle.ddm_laws.specs.Layout.{built-ddm}
 use Rattle.ddm_laws.specs.Lists.{joined, objectsOf, Fit, parameters-joined, objects-joined}
 use Rattle.demands_ddm.specs.Reading.{recordsBuilt, AllSay, ListsAs}
-use Rattle.demands_ddm.proofs.LayoutRead.{no-work, built-record}
+use Rattle.demands_ddm.proofs.LayoutRead.{built-no-work, built-record}
 
 count : (l : List (ℕ × List ℕ)) → length (objectsOf l) ≡ length l
 count [] = refl
 count (x ∷ l) = ap suc (count l)
 
 -- from a place on: the records, no bytes of the work area, and what the records say
-record Rest (s : List ℕ) (place : ℕ) (l : List (ℕ × List ℕ)) : Type 0 where
-  records : recordsOf s place (objectsOf l) ≡ recordsBuilt place l
-  works : worksOf s place (objectsOf l) ≡ []
-  say : AllSay s l (recordsBuilt place l)
+pub record Rest (s : List ℕ) (place : ℕ) (l : List (ℕ × List ℕ)) : Type 0 where
+  pub records : recordsOf s place (objectsOf l) ≡ recordsBuilt place l
+  pub works : worksOf s place (objectsOf l) ≡ []
+  pub say : AllSay s l (recordsBuilt place l)
 
-rest-of : (l : List (ℕ × List ℕ)) → Fit l → (s : List ℕ) (place : ℕ) → drop place s ≡ joined l → Rest s place l
+pub rest-of : (l : List (ℕ × List ℕ)) → Fit l → (s : List ℕ) (place : ℕ) → drop place s ≡ joined l → Rest s place l
 unfolding recordsOf recordsBuilt worksOf AllSay
 rest-of [] g s place e = record { records = refl; works = refl; say = tt }
 rest-of (x ∷ l) g s place e =
@@ -41,9 +40,22 @@ rest-of (x ∷ l) g s place e =
     let r : Rest s (place + n) l = rest-of l (g .2) s (place + n) (here-next s (built (x .0) (x .1)) (joined l) place (place + n) e refl) in
     record {
       records = ap₂ (λ (o : DdmObject) (os : List DdmObject). o ∷ os) (b .0) (r .records);
-      works = ap₂ (λ (v w : List ℕ). v ++ w) (no-work (x .0) (x .1) (built (x .0) (x .1)) (built-ddm (x .0) (x .1) (g .1)) (g .0) (g .1) s (joined l) place e) (r .works);
+      works = ap₂ (λ (v w : List ℕ). v ++ w) (built-no-work (x .0) (x .1) (g .0) (g .1) s (joined l) place e) (r .works);
       say = (refl, b .1, r .say);
     }
+
+-- they fit any work area, and a row with as many records
+module _ (l : List (ℕ × List ℕ)) (g : Fit l) (size rows : ℕ) (h : length l ≤ rows) where
+  works-none : worksOf (joined l) 0 (objectsOf l) ≡ []
+  works-none = rest-of l g (joined l) 0 refl .works
+
+  pub fit-listed : objectsFit (joined l) (objectsOf l) size rows ≡ true
+  fit-listed =
+      and-both _ _ (le-leb (length (worksOf (joined l) 0 (objectsOf l))) size (omega (arith, ap length works-none)))
+      (le-leb (length (objectsOf l)) rows (omega (arith, count l)))
+
+  pub given-listed : givenObjects (joined l) size rows (objectsOf l) ≡ Objects (length l) 0
+  given-listed = pick-yes _ _ fit-listed ∙ ap₂ (λ (n m : ℕ). Objects n m) (count l) (ap length works-none)
 
 -- whatever call lists them
 module _ (l : List (ℕ × List ℕ)) (g : Fit l) (work : List ℕ) (row : List DdmObject) (h : length l ≤ length row) (r : ObjectsFound) (workAfter : List ℕ) (rowAfter : List DdmObject) where
@@ -54,12 +66,10 @@ module _ (l : List (ℕ × List ℕ)) (g : Fit l) (work : List ℕ) (row : List 
   all = rest-of l g s 0 refl
 
   fit : objectsFit s (objectsOf l) (length work) (length row) ≡ true
-  fit =
-      and-both _ _ (le-leb (length (worksOf s 0 (objectsOf l))) (length work) (omega (arith, ap length (all .works))))
-      (le-leb (length (objectsOf l)) (length row) (omega (arith, count l)))
+  fit = fit-listed l g (length work) (length row) h
 
   given : givenObjects s (length work) (length row) (objectsOf l) ≡ Objects (length l) 0
-  given = pick-yes _ _ fit ∙ ap₂ (λ (n m : ℕ). Objects n m) (count l) (ap length (all .works))
+  given = given-listed l g (length work) (length row) h
 
   lists-as : (os : List Object) → os ≡ objectsOf l → r ≡ Objects (length l) 0
       → workAfter ≡ landed (objectsFit s os (length work) (length row)) work (worksOf s 0 os)

@@ -21,7 +21,8 @@ use Rattle.ddm_object.specs.declared.ObjectFound.the-variants.{Object as Gives}
 use Rattle.ddm_object.specs.declared.ObjectsFound.{ObjectsFound}
 use Rattle.ddm_laws.specs.Lists.{joined, Fit}
 use Rattle.demands_ddm.specs.Reading.{LaidFirst, plain, dataOf, ListsAs, Added, none, more}
-use Rattle.demands_ddm.proofs.Requests.{added-filled, request-listed}
+use Rattle.demands_ddm.proofs.Requests.{added-filled}
+use Rattle.demands_ddm.proofs.RequestBack.{request-list}
 use Rattle.demands_ddm.proofs.Stripping.{strips-marked}
 
 -- ---- a request
@@ -65,8 +66,8 @@ pub request-lists : (work : List ℕ) (row : List DdmObject) → 2 ≤ length ro
     → ListsAs two-params (dataOf request (plain 0 0x1041 4 9)) work row r workAfter rowAfter
 unfolding two-params
 request-lists work row h r workAfter rowAfter p =
-    request-listed 0x1041 two-params (omega arith) (two-fit .0) (omega (arith, two-fit .1)) builder content (added-filled two-added) (replicate 16 9) (omega (arith, two-fit .2)) (Bytes 13) request request-built
-    (plain 0 0x1041 4 9) [] [] request-parsed work row h r workAfter rowAfter p
+    request-list 0x1041 two-params (omega arith, omega (arith, two-fit .1)) (two-fit .0) builder content (added-filled two-added) (replicate 16 9) request (omega (arith, two-fit .2)) request 0 refl (Bytes 13) request-built
+    [] (plain 0 0x1041 4 9) [] request-parsed work row h r workAfter rowAfter p
 
 -- ---- a marker
 

@@ -1,7 +1,7 @@
--- An object built parameter by parameter is read back as that: the object with its code point, and in its data those parameters.
-use Prim.Native.Nat.{ℕ, _+_, _-_, _^_, _≤_, _<_}
+-- What an object built parameter by parameter has as its data: those parameters, one behind the other.
+use Prim.Native.Nat.{ℕ, _+_, _-_, _≤_}
 use native.Mathlib.Omega.{arith}
-use mathlib.Core.Path.{_≡_, refl, sym, ap, ap₂, subst, _∙_}
+use mathlib.Core.Path.{_≡_, refl, sym, ap, ap₂, _∙_}
 use mathlib.Core.List.{List, [], _∷_, _++_, append-assoc, append-nil}
 use borrow.Author.Tests.{leb-true}
 use lib.Dec.{leb}
@@ -11,22 +11,14 @@ use Rattle.wire.specs.Bytes.{splice}
 use Rattle.wire.specs.Laws.{picked}
 use Rattle.wire.specs.Splice.{laid-fits}
 use Rattle.answer.specs.Rooms.{roomFor}
-use Rattle.answer.specs.declared.Laid.{Laid}
 use Rattle.answer.specs.declared.RoomFor.{RoomFor}
 use Rattle.answer.specs.declared.RoomFor.the-variants.{Enough, Refused as Refuses}
 use Rattle.ddm_builder.specs.Built.{built}
-use Rattle.ddm_builder.specs.Builder.{addedBy, Adds, objectOf, Builds}
+use Rattle.ddm_builder.specs.Builder.{addedBy, Adds}
 use Rattle.ddm_builder.specs.declared.DdmBuilder.{DdmBuilder}
 use Rattle.ddm_builder.specs.declared.Added.the-variants.{Done}
-use Rattle.ddm_object.specs.ObjectCalls.{ObjectAt, ListsParameters}
-use Rattle.ddm_object.specs.declared.DdmObject.{DdmObject}
-use Rattle.ddm_object.specs.declared.ObjectFound.{ObjectFound}
-use Rattle.ddm_object.specs.declared.ObjectFound.the-variants.{Object as Gives}
-use Rattle.ddm_object.specs.declared.ObjectsFound.{ObjectsFound}
-use Rattle.ddm_laws.specs.Lists.{joined, Fit}
-use Rattle.demands_ddm.specs.Reading.{plain, dataOf, headerOf, ReadsAs, ListsAs, Added, none, more}
-use Rattle.demands_ddm.proofs.Building.{builds-first, laid-parsed}
-use Rattle.demands_ddm.proofs.Listing.{parameters-listed}
+use Rattle.ddm_laws.specs.Lists.{joined}
+use Rattle.demands_ddm.specs.Reading.{Added, none, more}
 
 joined-append : (l m : List (ℕ × List ℕ)) → joined (l ++ m) ≡ joined l ++ joined m
 joined-append [] m = refl
@@ -86,28 +78,3 @@ added-filled {cp} {room} (more {l = l} {b = b} {now = now} a c d next after p) =
               ∙ ap₂ (λ (x y : List ℕ). x ++ y) (f .filled) (sym (append-nil (built c d)))
               ∙ sym (joined-append l ((c, d) ∷ []));
         }
-
--- ---- built, read, and its parameters listed
-
-module _ (cp : ℕ) (l : List (ℕ × List ℕ)) (small : cp < 65536) (fit : Fit l) (few : length (joined l) < 2 ^ 63) (b : DdmBuilder) (content : List ℕ) (f : Filled cp l b content) where
-  object-is : objectOf b content ≡ built cp (joined l)
-  object-is = ap₂ (λ (c : ℕ) (d : List ℕ). built c d) (f .code-point) (f .filled)
-
-  module _ (room : List ℕ) (h : length (built cp (joined l)) ≤ length room) (laid : Laid) (after : List ℕ) (p : Builds b content room laid after) where
-    -- the object
-    pub request-parsed : (work : List ℕ) (r : ObjectFound) (workAfter : List ℕ) → ObjectAt after 0 work r workAfter → ReadsAs cp (joined l) after 0 (headerOf (joined l)) work r workAfter
-    request-parsed work r workAfter q =
-        let w = builds-first b content room laid after (f .inside) (omega (arith, ap length object-is)) p in
-        laid-parsed cp (joined l) room small few laid after (rw object-is at w) work r workAfter q
-
-    -- its parameters, read from the data that its record names
-    pub request-listed : (o : DdmObject) (work₀ workAfter₀ : List ℕ) → ObjectAt after 0 work₀ (Gives o) workAfter₀
-        → (work : List ℕ) (row : List DdmObject) → length l ≤ length row → (r : ObjectsFound) (workAfter : List ℕ) (rowAfter : List DdmObject)
-        → ListsParameters (dataOf after o) work row r workAfter rowAfter
-        → ListsAs l (dataOf after o) work row r workAfter rowAfter
-    request-listed o work₀ workAfter₀ q work row k r workAfter rowAfter x =
-        let v = request-parsed work₀ (Gives o) workAfter₀ q in
-        let same : o ≡ plain 0 cp (headerOf (joined l)) (length (joined l)) = cc (v .is) in
-        let e : dataOf after o ≡ joined l = ap (dataOf after) same ∙ v .data-is in
-        subst (λ (s : List ℕ). ListsAs l s work row r workAfter rowAfter) (sym e)
-        (parameters-listed l fit work row k r workAfter rowAfter (subst (λ (s : List ℕ). ListsParameters s work row r workAfter rowAfter) e x))

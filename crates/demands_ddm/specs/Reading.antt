@@ -7,6 +7,7 @@ use lib.ListN.{length, take, drop}
 use Rattle.wire.specs.Bytes.{splice}
 use Rattle.answer.specs.declared.Laid.{Laid}
 use Rattle.answer.specs.declared.Laid.the-variants.{Bytes}
+use Rattle.layouts.specs.DdmLayout.{Ddm}
 use Rattle.ddm_builder.specs.Built.{lengthBytes, built}
 use Rattle.ddm_builder.specs.Builder.{fresh, Adds}
 use Rattle.ddm_builder.specs.declared.DdmBuilder.{DdmBuilder}
@@ -25,6 +26,13 @@ pub record LaidFirst (bytes room : List ℕ) (r : Laid) (after : List ℕ) : Typ
   pub first : take (length bytes) after ≡ bytes
   pub behind : drop (length bytes) after ≡ drop (length bytes) room
   pub whole : after ≡ bytes ++ drop (length bytes) room
+
+-- An object is laid at a room's start: its bytes are the room's first, they have DRDA volume 3's layout, and behind them the room is
+-- as it was.
+pub record InRoom (cp : ℕ) (d room after : List ℕ) : Type 0 where
+  pub first : take (length (built cp d)) after ≡ built cp d
+  pub layout : Ddm cp d (take (length (built cp d)) after)
+  pub behind : drop (length (built cp d)) after ≡ drop (length (built cp d)) room
 
 -- ---- what is read
 

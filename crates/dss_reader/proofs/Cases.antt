@@ -1,10 +1,13 @@
 -- What the reader's calls answer and leave in cases of document 01: the definitions that the contracts cite aren't empty.
 use Prim.Native.Nat.{ℕ}
-use mathlib.Core.Path.{_≡_, refl}
+use mathlib.Core.Path.{_≡_, refl, ap, _∙_}
 use mathlib.Core.Bool.{Bool, true, false}
 use mathlib.Core.List.{List, [], _∷_, _++_}
-use lib.ListN.{length, replicate}
-use Rattle.wire.specs.Bytes.{splice, laid}
+use lib.Dec.{leb}
+use lib.ListN.{length, drop, replicate}
+use denote.Ref.{RefT}
+use Rattle.wire.specs.Bytes.{pick, splice, laid}
+use Rattle.wire.specs.Parts.{startAt, RestAt}
 use Rattle.answer.specs.declared.Refusal.the-variants.{Incomplete, InvalidMagic, LengthTooShort, NoRoom, OutOfBounds}
 use Rattle.dss_head.specs.declared.DssType.{DssType}
 use Rattle.dss_head.specs.declared.DssType.the-variants.{Request, Reply, Object, Communication}
@@ -98,3 +101,13 @@ both : (all two 0 4 2 ≡ Frames 2 4 (standsAt 16))
     × (all two 17 0 0 ≡ NoneRead (record { why = OutOfBounds 17 16; place = 17 }) (standsAt 17))
 unfolding p2 two all frame blank readAt allFrames payloadOf payloadsOf recordsOf endOf splice
 both = (refl, refl, refl, refl, refl, refl, refl, refl, refl, refl, refl, refl)
+
+-- what isn't read yet of a run of two bytes, at 1, at its end and beyond it: its last byte, and none at its end
+rests : (run r : RefT (List ℕ)) → run .now ≡ 7 ∷ 8 ∷ []
+    → (RestAt run 1 r → (r .now ≡ 8 ∷ []) × (r .ptr ≡ startAt run 1))
+    × (RestAt run 2 r → (r .now ≡ []) × (r .ptr ≡ startAt run 2))
+    × (RestAt run 3 r → (r .now ≡ []) × (r .ptr ≡ startAt run 2))
+rests run r e = (λ p. (p .bytes-are ∙ ap (drop 1) e, p .starts ∙ ap (startsOf 1) e), λ p. (p .bytes-are ∙ ap (drop 2) e, p .starts ∙ ap (startsOf 2) e), λ p. (p .bytes-are ∙ ap (drop 3) e, p .starts ∙ ap (startsOf 3) e))
+  where
+    startsOf : ℕ → List ℕ → ℕ × ℕ
+    startsOf at l = startAt run (pick (leb at (length l)) at (length l))

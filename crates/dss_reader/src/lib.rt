@@ -1,8 +1,9 @@
 // Reading frames off a run: document 01, "Reading".
 ghost use mathlib.Core.Path.{_≡_};
 ghost use Prim.Native.Nat.{_-_};
-ghost use lib.ListN.{length, drop};
+ghost use lib.ListN.{length};
 ghost use Rattle.wire.specs.Bytes.{splice};
+ghost use Rattle.wire.specs.Parts.{RestAt};
 ghost use Rattle.answer.specs.Rooms.{noRoom};
 ghost use Rattle.dss_frame.specs.Frames.{allFrames};
 ghost use Rattle.dss_reader.specs.Reader.{standsAt, frameEnd, isEnd, NextFrame, givenAll, ReadAllFrames};
@@ -216,15 +217,16 @@ impl DssReader {
         run.len() - at
     }
 
-    // The bytes that aren't read yet.
+    // The bytes that aren't read yet. Of a position beyond the run it is the empty part at the run's end.
     pub fn into_remaining(self, run: &[u8]) -> &[u8]
-        ensures { λ r. ⌜ now r ≡ drop (self .position) (now (run .entry)) ⌝ }
+        ensures { λ r. ⌜ RestAt (run .entry) (self .position) r ⌝ }
     {
         let at = self.position;
-        if run.len() <= at {
-            return &run[run.len()..];
+        if at <= run.len() {
+            return &run[at..];
         }
-        &run[at..]
+        let end = run.len();
+        &run[end..end]
     }
 
     // The byte after the last of the frame at the position.

@@ -1,18 +1,22 @@
 -- Any two outcomes that a contract of this crate allows are equal: the answer, the state that is handed back, and every byte
 -- of the room. Each statement names the contract, and doesn't write it again.
 use Prim.Native.Nat.{ℕ}
-use mathlib.Core.Path.{_≡_, sym, _∙_}
+use mathlib.Core.Path.{_≡_, refl, sym, _∙_, ap}
 use mathlib.Core.Bool.{Bool}
-use mathlib.Core.List.{List}
+use mathlib.Core.List.{List, [], _∷_}
+use lib.Dec.{leb}
+use lib.ListN.{length}
 use contract.Lifetimes.{Lfts}
 use denote.Ref.{RefT, at-last}
+use Rattle.wire.specs.Bytes.{pick}
+use Rattle.wire.specs.Parts.{startAt}
 use Rattle.answer.specs.Rooms.{Lays}
 use Rattle.answer.specs.declared.Laid.{Laid}
 use Rattle.dss_head.specs.declared.DssType.{DssType}
 use Rattle.dss_frame.specs.Written.{Sent}
 use Rattle.dss_writer.specs.declared.DssWriter.{DssWriter}
 use Rattle.dss_writer.specs.declared.Wrote.{Wrote}
-use Rattle.dss_writer.specs.Writer.{Writes}
+use Rattle.dss_writer.specs.Writer.{filled, FilledAt, Writes}
 use Rattle.dss_writer.proofs.frame_size.Reads as frame-size
 use Rattle.dss_writer.proofs.DssWriter.new.Reads as new
 use Rattle.dss_writer.proofs.DssWriter.finish.Reads as finish
@@ -48,10 +52,24 @@ new-one κs id r r′ p q = p ∙ sym q
 pub finish-one : (κs : Lfts 0) (w r r′ : DssWriter) → finish.Post κs (w, tt) r (w, tt) → finish.Post κs (w, tt) r′ (w, tt) → r ≡ r′
 finish-one κs w r r′ p q = p ∙ sym q
 
--- the bytes of the part that is handed out
+-- the part that is handed out: its bytes, and where it starts
 pub data-one : (κs : Lfts 1) (w : DssWriter) (room r r′ : RefT (List ℕ))
-    → filled-part.Post κs (w, (room, tt)) r (w, (room, tt)) → filled-part.Post κs (w, (room, tt)) r′ (w, (room, tt)) → r .now ≡ r′ .now
-data-one κs w room r r′ p q = p ∙ sym q
+    → filled-part.Post κs (w, (room, tt)) r (w, (room, tt)) → filled-part.Post κs (w, (room, tt)) r′ (w, (room, tt)) → (r .now ≡ r′ .now) × (r .ptr ≡ r′ .ptr)
+data-one κs w room r r′ p q = (p .bytes-are ∙ sym (q .bytes-are), p .starts ∙ sym (q .starts))
+
+-- one is allowed, whatever is given
+pub data-some : (κs : Lfts 1) (w : DssWriter) (room : RefT (List ℕ))
+    → filled-part.Post κs (w, (room, tt)) (record { ptr = startAt room (pick (leb (w .fill) (length (room .now))) 0 (length (room .now))); name = room .name; now = filled (w .fill) (room .now) }) (w, (room, tt))
+data-some κs w room = record { bytes-are = refl; starts = refl }
+
+-- with the mark within a room of three bytes and beyond it: two bytes at its start, and none at its end
+data-parts : (room r : RefT (List ℕ)) → room .now ≡ 7 ∷ 8 ∷ 9 ∷ []
+    → (FilledAt room 2 r → (r .now ≡ 7 ∷ 8 ∷ []) × (r .ptr ≡ startAt room 0))
+    × (FilledAt room 4 r → (r .now ≡ []) × (r .ptr ≡ startAt room 3))
+data-parts room r e = (λ p. (p .bytes-are ∙ ap (filled 2) e, p .starts ∙ ap (startsOf 2) e), λ p. (p .bytes-are ∙ ap (filled 4) e, p .starts ∙ ap (startsOf 4) e))
+  where
+    startsOf : ℕ → List ℕ → ℕ × ℕ
+    startsOf fill l = startAt room (pick (leb fill (length l)) 0 (length l))
 
 pub correlation-id-one : (κs : Lfts 0) (w : DssWriter) (r r′ : ℕ) → correlation-id.Post κs (w, tt) r (w, tt) → correlation-id.Post κs (w, tt) r′ (w, tt) → r ≡ r′
 correlation-id-one κs w r r′ p q = p ∙ sym q

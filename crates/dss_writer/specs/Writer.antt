@@ -5,7 +5,9 @@ use mathlib.Core.Bool.{Bool}
 use mathlib.Core.List.{List, []}
 use lib.Dec.{leb}
 use lib.ListN.{length, take}
+use denote.Ref.{RefT}
 use Rattle.wire.specs.Bytes.{pick, laid}
+use Rattle.wire.specs.Parts.{startAt}
 use Rattle.answer.specs.Rooms.{roomFor}
 use Rattle.answer.specs.declared.RoomFor.{RoomFor}
 use Rattle.answer.specs.declared.RoomFor.the-variants.{Enough, Refused as Refuses}
@@ -34,6 +36,11 @@ nextCorrelation w = withCorrelation w ((w .«correlation_id» + 1) % 65536)
 -- what was written: the room up to the fill mark; of a mark beyond the room, nothing
 abbrev pub filled : ℕ → List ℕ → List ℕ
 filled fill room = pick (leb fill (length room)) (take fill room) []
+
+-- which part of the room that is: the one at its start; of a mark beyond the room, the empty one at its end
+pub record FilledAt (room : RefT (List ℕ)) (fill : ℕ) (r : RefT (List ℕ)) : Type 0 where
+  pub bytes-are : r .now ≡ filled fill (room .now)
+  pub starts : r .ptr ≡ startAt room (pick (leb fill (length (room .now))) 0 (length (room .now)))
 
 -- ---- a frame
 

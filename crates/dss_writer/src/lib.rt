@@ -11,7 +11,7 @@ ghost use Rattle.answer.specs.declared.RoomFor.the-variants.{Enough as enough};
 ghost use Rattle.dss_head.specs.declared.DssType.the-variants.{Request as asRequest, Object as asObject};
 ghost use Rattle.dss_head.specs.Heads.{headBytes};
 ghost use Rattle.dss_frame.specs.Written.{headOf, chunks, written, frameSize};
-ghost use Rattle.dss_writer.specs.Writer.{fresh, finished, withCorrelation, nextCorrelation, filled, sent, wroteBy, Writes};
+ghost use Rattle.dss_writer.specs.Writer.{fresh, finished, withCorrelation, nextCorrelation, FilledAt, sent, wroteBy, Writes};
 ghost use Rattle.dss_writer.specs.Laying.{asLaid};
 use answer::Laid;
 use answer::Refused;
@@ -171,14 +171,14 @@ impl DssWriter {
 
     // What was written: the room up to the fill mark. Of a mark beyond the room it is the empty part at the room's end.
     pub fn data<'a>(self, room: &'a [u8]) -> &'a [u8]
-        ensures { λ r. ⌜ now r ≡ filled (self .fill) (now (room .entry)) ⌝ }
+        ensures { λ r. ⌜ FilledAt (room .entry) (self .fill) r ⌝ }
     {
         let fill = self.fill;
         if fill <= room.len() {
             return &room[..fill];
         }
         let end = room.len();
-        &room[end..]
+        &room[end..end]
     }
 
     pub fn correlation_id(self) -> u16

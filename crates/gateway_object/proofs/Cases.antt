@@ -52,12 +52,16 @@ finding : (foundWords (findFrom (p13 ++ p14) 0 0x2412 0 (parameters (p13 ++ p14)
 unfolding findFrom parameters parametersFuel parsed measured marshaled unmarked
 finding = (refl, refl)
 
--- a step gives the next place; at the end, and at what is unfit, 11 with the place
-steps : (stepWords 4 (stepAt (p13 ++ p14) 4) ≡ 0 ∷ 10 ∷ 0x2412 ∷ 0 ∷ 9 ∷ 1 ∷ 6 ∷ 0 ∷ [])
-    × (stepWords 10 (stepAt (p13 ++ p14) 10) ≡ 11 ∷ 10 ∷ 0 ∷ 0 ∷ 0 ∷ 0 ∷ 0 ∷ 0 ∷ [])
-    × (stepWords 4 (stepAt (p13 ++ p16) 4) ≡ 11 ∷ 4 ∷ 0 ∷ 0 ∷ 0 ∷ 0 ∷ 0 ∷ 0 ∷ [])
+-- a step gives the next place; at the end, and at what is unfit, 11 with the place; beyond the data 10 with the place, and with
+-- it and the data's length
+steps : (stepWords (stepAt (p13 ++ p14) 4) ≡ 0 ∷ 10 ∷ 0x2412 ∷ 0 ∷ 9 ∷ 1 ∷ 6 ∷ 0 ∷ [])
+    × (stepWords (stepAt (p13 ++ p14) 10) ≡ 11 ∷ 10 ∷ 0 ∷ 0 ∷ 0 ∷ 0 ∷ 0 ∷ 0 ∷ [])
+    × (stepWords (stepAt (p13 ++ p16) 4) ≡ 11 ∷ 4 ∷ 0 ∷ 0 ∷ 0 ∷ 0 ∷ 0 ∷ 0 ∷ [])
+    × (stepWords (stepAt (p13 ++ p14) 11) ≡ 10 ∷ 11 ∷ 11 ∷ 10 ∷ 0 ∷ 0 ∷ 0 ∷ 0 ∷ [])
+    × (stepWords (stepAt [] 1) ≡ 10 ∷ 1 ∷ 1 ∷ 0 ∷ 0 ∷ 0 ∷ 0 ∷ 0 ∷ [])
+    × (stepWords (stepAt [] 0) ≡ 11 ∷ 0 ∷ 0 ∷ 0 ∷ 0 ∷ 0 ∷ 0 ∷ 0 ∷ [])
 unfolding stepAt parsed measured marshaled unmarked
-steps = (refl, refl, refl)
+steps = (refl, refl, refl, refl, refl, refl)
 
 -- numbers read from data: -2 as two's complement of 64 bits; 11 where there are too few bytes
 numbers : (u16Words (u16Of p14) ≡ 0 ∷ 0 ∷ 0x8005 ∷ 0 ∷ 0 ∷ 0 ∷ 0 ∷ 0 ∷ [])

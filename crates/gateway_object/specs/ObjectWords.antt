@@ -8,7 +8,6 @@ use lib.IntN.{ℤ, pos, negsuc}
 use lib.ListN.{length, drop}
 use Rattle.wire.specs.Bytes.{pick, laid}
 use Rattle.answer.specs.Rooms.{laidAtStart}
-use Rattle.answer.specs.declared.Refusal.the-variants.{NotFound}
 use Rattle.ddm_length.specs.Markers.{unmarked}
 use Rattle.ddm_length.specs.declared.Marshaled.{Marshaled}
 use Rattle.ddm_length.specs.declared.Marshaled.the-variants.{Takes, Refused as Refuses}
@@ -18,7 +17,7 @@ use Rattle.ddm_object.specs.declared.DdmObject.{DdmObject}
 use Rattle.ddm_object.specs.declared.ObjectFound.{ObjectFound}
 use Rattle.ddm_object.specs.declared.ObjectFound.the-variants.{Object as Gives, Refused as NotGiven}
 use Rattle.ddm_object.specs.declared.Stepped.{Stepped}
-use Rattle.ddm_object.specs.declared.Stepped.the-variants.{Param, End}
+use Rattle.ddm_object.specs.declared.Stepped.the-variants.{Param, Refused as NoStep}
 use Rattle.ddm_object.specs.declared.U16Found.{U16Found}
 use Rattle.ddm_object.specs.declared.U16Found.the-variants.{Number as U16, Refused as NoU16}
 use Rattle.ddm_object.specs.declared.U32Found.{U32Found}
@@ -57,11 +56,10 @@ abbrev pub foundWords : ObjectFound → List ℕ
 foundWords (Gives o) = objectWords o
 foundWords (NotGiven r) = refusalWords r
 
--- one step of a walk over parameters: the parameter at a place, with the next place; 11 at the end, its place "the position ...
--- as given"
-abbrev pub stepWords : ℕ → Stepped → List ℕ
-stepWords at (Param o next) = placedWords next o
-stepWords at End = refusalWords (record { why = NotFound; place = at })
+-- one step of a walk over parameters: the parameter at a place, with the next place
+abbrev pub stepWords : Stepped → List ℕ
+stepWords (Param o next) = placedWords next o
+stepWords (NoStep r) = refusalWords r
 
 -- what the object at a place answers, and what the lent words and the lent work area then hold
 pub record ReadsObject (s : List ℕ) (place : ℕ) (work words : List ℕ) (r : ℕ) (work-after words-after : List ℕ) : Type 0 where

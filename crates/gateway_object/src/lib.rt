@@ -8,8 +8,6 @@ ghost use Rattle.ddm_object.specs.Finding.{stepAt};
 ghost use Rattle.ddm_object.specs.ObjectCalls.{u16Of, u32Of, i32Of};
 ghost use Rattle.gateway_words.specs.Words.{Answered};
 ghost use Rattle.gateway_object.specs.ObjectWords.{lengthWords, Strips, flagWord, placedWords, foundWords, stepWords, ReadsObject, ReadsParam, wordOf, u16Words, u32Words, i32Words};
-use answer::Refusal;
-use answer::Refused;
 use ddm_length::Marshaled;
 use ddm_object::DdmObject;
 use ddm_object::I32Found;
@@ -91,16 +89,13 @@ pub(crate) fn put_found(words: &mut [u64], found: ObjectFound) -> u8
     }
 }
 
-// A parameter with the next place, or the end: 11 at the place.
-pub(crate) fn put_step(words: &mut [u64], at: usize, step: Stepped) -> u8
-    ensures { λ r. ⌜ Answered (stepWords at step) (now (words .entry)) r (now (words .exit)) ⌝ }
+// A parameter with the next place, or why there is none.
+pub(crate) fn put_step(words: &mut [u64], step: Stepped) -> u8
+    ensures { λ r. ⌜ Answered (stepWords step) (now (words .entry)) r (now (words .exit)) ⌝ }
 {
     match step {
         Stepped::Param(o, next) => put_object(words, next, o),
-        Stepped::End => {
-            let why = Refusal::NotFound;
-            put_refusal(words, Refused { why, place: at })
-        }
+        Stepped::Refused(refused) => put_refusal(words, refused),
     }
 }
 
@@ -127,13 +122,13 @@ pub extern "C" fn lattrugone_find_param(
     put_found(words, found)
 }
 
-// The parameter at a place, by measuring alone; in the place's word the next place.
+// The parameter at a place, by measuring alone; in the place's word the next place. 10, then 11 where the list ends.
 #[no_mangle]
 pub extern "C" fn lattrugone_param_step(data: &[u8], at: usize, words: &mut [u64]) -> u8
-    ensures { λ r. ⌜ Answered (stepWords at (stepAt (now («data» .entry)) at)) (now (words .entry)) r (now (words .exit)) ⌝ }
+    ensures { λ r. ⌜ Answered (stepWords (stepAt (now («data» .entry)) at)) (now (words .entry)) r (now (words .exit)) ⌝ }
 {
     let step = ddm_object::step_at(data, at);
-    put_step(words, at, step)
+    put_step(words, step)
 }
 
 // How many bytes the builder would make of an object with so much data, whatever else its record says.

@@ -12,6 +12,7 @@ use Rattle.wire.specs.Laws.{by, and-both, and-split, pick-by, pick-yes, pick-no
 use Rattle.wire.specs.Lent.{tail, back}
 use Rattle.wire.specs.Splice.{splice-none, splice-splice, splice-length, laid-fits}
 use Rattle.answer.specs.Rooms.{noRoom}
+use Rattle.answer.specs.declared.Refused.{Refused}
 use Rattle.ddm_length.specs.Lent.{lent-laid}
 use Rattle.ddm_object.specs.Objects.{AllParsed, objects, refusedAll}
 use Rattle.ddm_object.specs.ObjectCalls.{worksOf, recordsOf, objectsFit, givenAll, listed}
@@ -21,7 +22,7 @@ use Rattle.ddm_object.specs.declared.DdmObject.{DdmObject}
 use Rattle.ddm_object.specs.declared.ObjectsFound.{ObjectsFound}
 use Rattle.ddm_object.specs.declared.ObjectsFound.the-variants.{Objects, Refused as NoneGiven}
 use Rattle.ddm_object.specs.declared.Stepped.{Stepped}
-use Rattle.ddm_object.specs.declared.Stepped.the-variants.{Param, End}
+use Rattle.ddm_object.specs.declared.Stepped.the-variants.{Param, Refused as NoStep}
 use Rattle.gateway_words.specs.Words.{Answered}
 use Rattle.gateway_object.specs.ObjectWords.{objectWords}
 use Rattle.gateway_object_rows.specs.RowWords.{listWords, rowWords, records, ListsWords}
@@ -91,8 +92,8 @@ module _ (s : List ℕ) (n : ℕ) (row : List ℕ) (i at : ℕ) (now : List ℕ)
         }
 
     -- the walk ends before n records: there are no more
-    pub filling-ends : stepAt s at ≡ End → now ≡ splice row 0 (rowWords (recsFrom n s 0))
-    filling-ends e =
+    pub filling-ends : (r : Refused) → stepAt s at ≡ NoStep r → now ≡ splice row 0 (rowWords (recsFrom n s 0))
+    filling-ends r e =
         f .row-is
         ∙ ap (λ (l : List DdmObject). splice row 0 (rowWords l))
         (sym (f .rest ∙ ap (λ (l : List DdmObject). f .met ++ l) (next-is ∙ ap (λ (z : Stepped). oneMore z (λ r k. r ∷ recsFrom (n - (i + 1)) s k)) e) ∙ append-nil (f .met)))

@@ -39,7 +39,7 @@ pub(crate) fn fill(data: &[u8], n: usize, row: &mut [u64])
                 at = next;
                 i += 1;
             }
-            Stepped::End => {
+            Stepped::Refused(_) => {
                 return;
             }
         }

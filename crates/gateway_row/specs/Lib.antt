@@ -1,2 +1,3 @@
 pub mod RowWords
 pub mod LaidWords
+pub mod RecordBack

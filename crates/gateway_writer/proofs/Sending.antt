@@ -2,6 +2,7 @@
 use Prim.Native.Nat.{ℕ}
 use mathlib.Core.Path.{_≡_}
 use mathlib.Core.List.{List}
+use lib.ListN.{length}
 use Rattle.answer.specs.Rooms.{Lays}
 use Rattle.answer.specs.declared.Refused.{Refused}
 use Rattle.answer.specs.declared.Laid.{Laid}
@@ -13,7 +14,7 @@ use Rattle.dss_writer.specs.Writer.{Writes}
 use Rattle.dss_writer.specs.declared.DssWriter.{DssWriter}
 use Rattle.dss_writer.specs.declared.Wrote.{Wrote}
 use Rattle.gateway_words.specs.Words.{refusalWords, laidWords, Answered}
-use Rattle.gateway_writer.specs.WriterWords.{wroteWords, Sends, Builds}
+use Rattle.gateway_writer.specs.WriterWords.{wroteWords, markFirst, Sends, Builds}
 
 module _ {found : TypeFound} {w : DssWriter} {f : DssType → Sent} {room words : List ℕ} {r : ℕ} {room′ words′ : List ℕ} where
   -- a type was found, and a frame of it written
@@ -21,9 +22,10 @@ module _ {found : TypeFound} {w : DssWriter} {f : DssType → Sent} {room words 
       → Sends found w f room words r room′ words′
   sends-typed e p q = record { answers = rw (e, ← p .answers) q; room-is = rw e (p .room-is) }
 
-  -- there is no such type, and the room is as it was
-  pub sends-none : {n : Refused} → found ≡ NoType n → room′ ≡ room → Answered (refusalWords n) words r words′ → Sends found w f room words r room′ words′
-  sends-none e k q = record { answers = rw e q; room-is = rw e k }
+  -- there is no such type: that or 10 was laid down, and the room is as it was
+  pub sends-none : {n m : Refused} → found ≡ NoType n → m ≡ markFirst (w .fill) (length room) n → room′ ≡ room → Answered (refusalWords m) words r words′
+      → Sends found w f room words r room′ words′
+  sends-none e h k q = record { answers = rw (e, ← h) q; room-is = rw e k }
 
 -- a frame at the room's first byte
 pub builds : {bytes room words : List ℕ} {r : ℕ} {room′ words′ : List ℕ} {a : Laid} → Lays bytes room a room′ → Answered (laidWords a) words r words′

@@ -4,10 +4,11 @@ use Prim.Native.Nat.{ℕ}
 use mathlib.Core.Path.{_≡_}
 use mathlib.Core.Bool.{Bool}
 use mathlib.Core.List.{List}
-use lib.Dec.{ltb}
+use lib.Dec.{ltb, leb}
 use lib.ListN.{length}
-use Rattle.wire.specs.Bytes.{laid}
-use Rattle.answer.specs.Rooms.{laidAtStart}
+use Rattle.wire.specs.Bytes.{pick, laid}
+use Rattle.answer.specs.Rooms.{outOfBounds, laidAtStart}
+use Rattle.answer.specs.declared.Refused.{Refused}
 use Rattle.dss_head.specs.declared.DssType.{DssType}
 use Rattle.dss_head.specs.declared.TypeFound.{TypeFound}
 use Rattle.dss_head.specs.declared.TypeFound.the-variants.{Is, Refused as NoType}
@@ -39,10 +40,14 @@ abbrev pub wroteWords : Wrote → List ℕ
 wroteWords (Done w) = doneWords (w .«correlation_id») (w .fill) 0 0
 wroteWords (NotWritten r) = refusalWords r
 
--- of a type that is given as a byte: the type's refusal, then those of the lent room
+-- "10 comes first wherever there is a position or mark"
+abbrev pub markFirst : ℕ → ℕ → Refused → Refused
+markFirst mark size r = pick (leb mark size) r (outOfBounds mark size)
+
+-- of a type that is given as a byte: 10, then the type's refusal, then 9
 abbrev pub wroteTyped : TypeFound → DssWriter → (DssType → Sent) → ℕ → Wrote
 wroteTyped (Is t) w f size = wrote w size (length (written (f t)))
-wroteTyped (NoType r) w f size = NotWritten r
+wroteTyped (NoType r) w f size = NotWritten (markFirst (w .fill) size r)
 
 -- and what the room then holds
 abbrev pub roomTyped : TypeFound → DssWriter → (DssType → Sent) → List ℕ → List ℕ

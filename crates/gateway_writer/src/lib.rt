@@ -1,5 +1,5 @@
 // The writer for C and Rust: document 01, module 2. Slices, numbers and words go as in the crate gateway. A writer goes in as
-// its correlation and its fill mark; a type is its byte, refused as by type_from_byte; yes is any byte but 0.
+// its correlation and its fill mark; a type is its byte, refused as by type_from_byte behind 10; yes is any byte but 0.
 ghost use mathlib.Core.Path.{_≡_};
 ghost use mathlib.Core.Bool.{true, false};
 ghost use Rattle.answer.specs.Rooms.{capped};
@@ -9,7 +9,9 @@ ghost use Rattle.dss_head.specs.declared.TypeFound.the-variants.{Is as is};
 ghost use Rattle.dss_frame.specs.Written.{written, frameSize};
 ghost use Rattle.dss_writer.specs.Writer.{fresh, nextCorrelation};
 ghost use Rattle.gateway_words.specs.Words.{Answered};
-ghost use Rattle.gateway_writer.specs.WriterWords.{writerOf, frameOf, yes, wroteWords, Sends, Builds};
+ghost use Rattle.gateway_writer.specs.WriterWords.{writerOf, frameOf, yes, wroteWords, markFirst, Sends, Builds};
+use answer::Refusal;
+use answer::Refused;
 use dss_head::DssFlags;
 use dss_head::DssType;
 use dss_head::TypeFound;
@@ -33,6 +35,20 @@ pub(crate) fn put_wrote(words: &mut [u64], wrote: Wrote) -> u8
         ),
         Wrote::Refused(refused) => put_refusal(words, refused),
     }
+}
+
+// Another refusal, unless the fill mark is beyond the room: 10 comes first.
+pub(crate) fn mark_first(fill: usize, size: usize, refused: Refused) -> Refused
+    ensures { λ r. ⌜ r ≡ markFirst fill size refused ⌝ }
+{
+    if size < fill {
+        let why = Refusal::OutOfBounds {
+            mark: fill,
+            length: size,
+        };
+        return Refused { why, place: fill };
+    }
+    refused
 }
 
 // The bytes that a frame takes, of its payload's length; 2^64 - 1 where they are more.
@@ -76,7 +92,7 @@ pub extern "C" fn lattrugone_write_dss_full(
             let wrote = writer.write_dss_full(is, has.chained, has.same_correlation, payload, room);
             put_wrote(words, wrote)
         }
-        TypeFound::Refused(refused) => put_refusal(words, refused),
+        TypeFound::Refused(refused) => put_refusal(words, mark_first(fill, room.len(), refused)),
     }
 }
 
@@ -101,7 +117,7 @@ pub extern "C" fn lattrugone_write_dss(
             let wrote = writer.write_dss(is, chained > 0, payload, room);
             put_wrote(words, wrote)
         }
-        TypeFound::Refused(refused) => put_refusal(words, refused),
+        TypeFound::Refused(refused) => put_refusal(words, mark_first(fill, room.len(), refused)),
     }
 }
 

@@ -11,7 +11,7 @@ use turn::replayed;
 const NAMED: u64 = 10;
 
 // The list is shorter than this, and so are inputs, rooms and rows.
-const LIST: usize = 524288;
+const LIST: usize = 655360;
 
 const BYTES: usize = 147456;
 

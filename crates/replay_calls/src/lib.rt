@@ -1,4 +1,5 @@
-// The exported functions by number, with what the list asks as their arguments: what each returns, as a number.
+// The exported functions by number, with what the list asks as their arguments: what each returns, as a number. Calls that no
+// exported function makes stand in replay_rows.
 pub mod asked; // asked.rt: a call's number, and what it is given
 mod frames; // frames.rt: heads, the writer, the reader, all frames, the salvage reading
 mod objects; // objects.rt: lengths, objects and parameters, the builder
@@ -19,6 +20,8 @@ pub fn made(asked: Asked, run: &[u8], room: &mut [u8], row: &mut [u64], words: &
         7 => objects::numbers(asked, run, words),
         8 => objects::builder(asked, run, room, words),
         9 => objects::parameters(asked, run, room, words),
+        10 => replay_rows::call_rows(asked.call, asked.a as usize, run, room, row, words),
+        11 => replay_rows::call_parts(asked.call, asked.a as usize, run, room, row, words),
         _ => asked::NO_CALL,
     }
 }

@@ -1,8 +1,5 @@
 // Rows of records, lent from local arrays and taken back: `read_all_frames`, `salvage` and `parameters` on a run each. Prints the
-// four records of each row, of which the last is as it was, and what its room then holds.
-mod entries; // entries.rt: a row of salvage entries
-mod frames; // frames.rt: a row of frames
-mod parameters; // parameters.rt: a row of objects
+// first four records of each row, of which the last is as it was, and what its room then holds.
 mod say; // say.rt: records as text
 
 use ddm_object::DdmObject;
@@ -41,7 +38,9 @@ fn show_frames() {
     let run =
         b"\x00\x06\xD0\x02\x00\x07\x00\x08\xD0\x03\x00\x01AB\x00\x07\xD0\x53\x00\x01C\x00\x08\xD0\x01\x00\x02DE";
     let mut room = [b'.'; 8];
-    let row = frames::four_frames(DssReader { position: 0 }, run, &mut room, blank_frame());
+    let reader = DssReader { position: 0 };
+    let listed = lent_rows::frames::frames_row(reader, run, &mut room, blank_frame());
+    let row = listed.row;
     let a = row[0];
     let b = row[1];
     let c = row[2];
@@ -62,7 +61,8 @@ fn show_entries() {
     let blank = SalvageEntry {
         entry: Entry::Frame(blank_frame()),
     };
-    let row = entries::four_entries(run, &mut room, blank);
+    let listed = lent_rows::entries::entries_row(run, &mut room, blank);
+    let row = listed.row;
     let a = row[0];
     let b = row[1];
     let c = row[2];
@@ -86,7 +86,8 @@ fn show_parameters() {
         data_len: 99,
         consumed: 99,
     };
-    let row = parameters::four_parameters(data, &mut work, blank);
+    let listed = lent_rows::objects::parameters_row(data, &mut work, blank);
+    let row = listed.row;
     let a = row[0];
     let b = row[1];
     let c = row[2];

@@ -5,3 +5,4 @@ pub mod Places
 pub mod Splice
 pub mod Lent
 pub mod Widths
+pub mod Parts

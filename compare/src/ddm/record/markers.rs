@@ -2,13 +2,11 @@
 use super::{found, step, whole};
 use crate::answers::{done, expected, refused};
 use crate::ddm::lengths::headed;
+use crate::ddm::markers::KINDS;
 use crate::ddm::objects::object;
 use crate::ddm::rust::text;
 use crate::record::{counted, Asked, List};
 use crate::Tally;
-
-/// Two bytes where a marker can stand: the two that are one, and those next to them.
-const KINDS: [[u8; 2]; 4] = [[0x7F, 0xFE], [0x7F, 0xFF], [0x7F, 0xFD], [0x80, 0x00]];
 
 /// Data around the places of the first marker and of the second, with each of those bytes there and beside them.
 pub fn markers(list: &mut List, tally: &mut Tally) {

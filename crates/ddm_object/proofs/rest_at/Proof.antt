@@ -5,7 +5,7 @@ use lib.ListN.{length, drop-of-length-le}
 use borrow.Author.Tests.{le-leb, lt-leb}
 use Rattle.wire.specs.Laws.{pick-yes, pick-no}
 use Rattle.wire.specs.Lent.{tail-drop}
-use Rattle.ddm_object.specs.Parts.{startAt}
+use Rattle.wire.specs.Parts.{startAt}
 use borrow.Author.Needs.{needs}
 use Rattle.ddm_object.proofs.rest_at.Statement.{statement}
 use Rattle.ddm_object.proofs.rest_at.Tie as tie

@@ -27,7 +27,7 @@ enum-told : tie.Need-enum-told
 enum-told c = search needs
 
 returns-3 : tie.Need-returns-3
-returns-3 c = sym (step-end _ _ _ (refused-of _ _ _ (sym (c .before .before .record-at .ensures) ∙ c .enum-told .given .1)))
+returns-3 c = sym (step-end _ _ _ (omega arith) (refused-of _ _ _ (sym (c .before .before .record-at .ensures) ∙ c .enum-told .given .1)))
 
 pub step-at-spec : {M : Type 1} → statement M
 step-at-spec =

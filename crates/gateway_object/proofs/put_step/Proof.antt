@@ -9,8 +9,8 @@ enum-known-step c = search needs
 put-object-requires : tie.Need-put-object-requires
 put-object-requires c κs = search needs
 
-enum-told : tie.Need-enum-told
-enum-told c = search needs
+enum-known-step-2 : tie.Need-enum-known-step-2
+enum-known-step-2 c = search needs
 
 put-refusal-requires : tie.Need-put-refusal-requires
 put-refusal-requires c κs = search needs
@@ -25,7 +25,7 @@ same-length-2 : tie.Need-same-length-2
 same-length-2 c = search needs
 
 returns-2 : tie.Need-returns-2
-returns-2 c = rw (c .before .before .before .before .enum-told .given .1) (c .before .before .put-refusal .ensures)
+returns-2 c = rw (c .before .before .before .before .before .step2 .given .1) (c .before .before .put-refusal .ensures)
 
 pub put-step-spec : {M : Type 1} → statement M
 put-step-spec =
@@ -33,7 +33,7 @@ put-step-spec =
     (tie.spec
     enum-known-step
     put-object-requires
-    enum-told
+    enum-known-step-2
     put-refusal-requires
     same-length
     returns

@@ -63,7 +63,7 @@ same-length c = filling-length _ _ _ _ _ _ (c .before .before .before .before .l
 
 returns : tie.Need-returns Inv-loop μ-loop
 returns c =
-    filling-ends _ _ _ _ _ _ (c .before .before .before .before .loop .inv) (c .before .before .before .loop-test .taken) (sym (c .before .before .step-at .ensures) ∙ c .enum-told .given .1)
+    filling-ends _ _ _ _ _ _ (c .before .before .before .before .loop .inv) (c .before .before .before .loop-test .taken) _ (sym (c .before .before .step-at .ensures) ∙ c .enum-told .given .1)
 
 same-length-2 : tie.Need-same-length-2 Inv-loop μ-loop
 same-length-2 c = filling-length _ _ _ _ _ _ (c .before .loop .inv)

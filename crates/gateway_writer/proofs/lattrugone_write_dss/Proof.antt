@@ -21,6 +21,9 @@ put-wrote-requires c κs = search needs
 enum-known-refused : tie.Need-enum-known-refused
 enum-known-refused c = search needs
 
+mark-first-requires : tie.Need-mark-first-requires
+mark-first-requires c κs = search needs
+
 put-refusal-requires : tie.Need-put-refusal-requires
 put-refusal-requires c κs = search needs
 
@@ -41,8 +44,9 @@ same-length-3 c = search needs
 
 returns-2 : tie.Need-returns-2
 returns-2 c =
-    let known = c .before .before .before .before .before in
-    sends-none (sym (known .before .before .from-byte .ensures) ∙ known .refused .given .1) refl (c .before .before .put-refusal .ensures)
+    let first = c .before .before .before in
+    let known = first .before .before .before in
+    sends-none (sym (known .before .before .from-byte .ensures) ∙ known .refused .given .1) (first .mark-first .ensures) refl (c .before .before .put-refusal .ensures)
 
 pub lattrugone-write-dss-spec : {M : Type 1} → statement M
 lattrugone-write-dss-spec =
@@ -53,6 +57,7 @@ lattrugone-write-dss-spec =
     write-dss-requires
     put-wrote-requires
     enum-known-refused
+    mark-first-requires
     put-refusal-requires
     same-length
     same-length-2

@@ -41,7 +41,7 @@ use denote.Triple.Table.{entered, cited}
 use denote.Triple.Walked.{says, Stays, stay-none, walkOf, goes-none, Walks, ends-at, walked, walk-meets}
 use denote.Exit.{yes}
 use denote.Triple.Clauses.{ensured, lasts}
-use Rattle.ddm_object.specs.Parts.{RestAt}
+use Rattle.wire.specs.Parts.{RestAt}
 use Rattle.ddm_object.specs.declared.Walker.{Walker}
 use Rattle.ddm_object.proofs.Walker as T
 use Rattle.ddm_object.proofs.Walker.Laws as T′

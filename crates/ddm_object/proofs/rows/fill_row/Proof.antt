@@ -57,7 +57,7 @@ use Rattle.ddm_object.specs.Finding.{stepAt}
 use Rattle.ddm_object.specs.Rows.{oneMore, recsFrom}
 use Rattle.ddm_object.specs.declared.DdmObject.{DdmObject}
 use Rattle.ddm_object.specs.declared.Stepped.{Stepped}
-use Rattle.ddm_object.specs.declared.Stepped.the-variants.{Param, End}
+use Rattle.ddm_object.specs.declared.Stepped.the-variants.{Param, Refused as NoStep}
 use Rattle.ddm_object.proofs.DdmObject as R
 use Rattle.ddm_object.proofs.DdmObject.Laws as R′
 use Rattle.ddm_object.proofs.Stepped as F
@@ -348,12 +348,12 @@ module _ {M : Type 1} (𝓤 : URA M) (H : Heap 𝓤) (A : Atoms 𝓤) (W : Given
 
         less : m < σ .more
         less = omega arith
-    matched σ z l m e k End is g =
+    matched σ z l m e k (NoStep r) is g =
         switches-on ! (load ! (from ! (vrt ! refl (fld ! refl (stop !)))) (look-tag ! 8 (whole !))) $ exec ! C Λ E (exit 1) (Q σ) $ jumps ! $ exec ! C Λ E mir.t-4 (atRet E Post) $
         forget ! 7 refl $ forget ! 8 refl $ leaves σ ended
       where
         ended : all ≡ σ .done
-        ended = σ .recs ∙ ap (λ (j : ℕ). σ .done ++ recsFrom j xs (σ .at)) k ∙ ap (λ (t : List DdmObject). σ .done ++ t) (one-more m xs (σ .at) End is) ∙ append-nil (σ .done)
+        ended = σ .recs ∙ ap (λ (j : ℕ). σ .done ++ recsFrom j xs (σ .at)) k ∙ ap (λ (t : List DdmObject). σ .done ++ t) (one-more m xs (σ .at) (NoStep r) is) ∙ append-nil (σ .done)
 
     -- a turn: the test, the call, and the switch
     turn : (σ : S) (k : ℕ) (l : List DdmObject) → σ .more ≡ k → σ .left ≡ l → Sq W (I σ) (runs C Λ E mir.turn-1 (Q σ))

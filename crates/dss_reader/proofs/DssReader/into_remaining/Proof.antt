@@ -1,17 +1,15 @@
--- `dss_reader::DssReader::into_remaining` meets its contract: a part up to the run's end is what is left of it, which is nothing
--- from its end on.
-use Prim.Native.Nat.{ℕ, _-_}
+-- `dss_reader::DssReader::into_remaining` meets its contract: the part from the position on, and the empty one at the run's end.
+use native.Mathlib.Nat.{sub-self}
 use native.Mathlib.Omega.{arith}
-use mathlib.Core.Path.{_≡_, sym, _∙_}
-use mathlib.Core.List.{List}
-use lib.ListN.{length, take, drop, length-drop, drop-of-length-le}
-use lib.Seq.{take-all, drop-length}
+use mathlib.Core.Path.{sym, _∙_, ap}
+use lib.ListN.{length, drop-of-length-le}
 use borrow.Author.Needs.{needs}
+use borrow.Author.Tests.{le-leb, lt-leb}
+use Rattle.wire.specs.Laws.{pick-yes, pick-no}
+use Rattle.wire.specs.Lent.{tail-drop}
+use Rattle.wire.specs.Parts.{startAt}
 use Rattle.dss_reader.proofs.DssReader.into_remaining.Statement.{statement}
 use Rattle.dss_reader.proofs.DssReader.into_remaining.Tie as tie
-
-up-to-end : (s : List ℕ) (p : ℕ) → take (length s - p) (drop p s) ≡ drop p s
-up-to-end s p = take-all (length s - p) (drop p s) (omega (arith, length-drop p s))
 
 sub-result : tie.Need-sub-result
 sub-result c = search needs
@@ -24,8 +22,12 @@ part-result-end c = search needs
 
 returns : tie.Need-returns
 returns c =
-    let s = c .before .before .args .run .now in
-    up-to-end s (length s) ∙ drop-length s ∙ sym (drop-of-length-le s (c .before .if1 .taken))
+    let s = c .before .before .args in
+    let d = s .run .now in
+    record {
+      bytes-are = tail-drop d (s .self .position);
+      starts = ap (startAt (s .run)) (sym (pick-yes _ _ (le-leb (s .self .position) (length d) (c .before .if1 .taken))));
+    }
 
 sub-result-2 : tie.Need-sub-result-2
 sub-result-2 c = search needs
@@ -37,7 +39,13 @@ part-result-end-2 : tie.Need-part-result-end-2
 part-result-end-2 c = search needs
 
 returns-2 : tie.Need-returns-2
-returns-2 c = up-to-end (c .before .before .args .run .now) (c .before .before .args .self .position)
+returns-2 c =
+    let s = c .before .before .args in
+    let d = s .run .now in
+    record {
+      bytes-are = rw (sub-self, drop-of-length-le d {i = s .self .position} (omega arith));
+      starts = ap (startAt (s .run)) (sym (pick-no _ _ (lt-leb (s .self .position) (length d) (c .before .if1 .left))));
+    }
 
 pub into-remaining-spec : {M : Type 1} → statement M
 into-remaining-spec =

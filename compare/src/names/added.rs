@@ -1,0 +1,107 @@
+//! What lattrugone adds to db2-proto's names: its `salvage` held to the model, and `next_frame_counted` and `position` to document
+//! 01's walk and to what remains.
+use super::seen::Head;
+use super::Names;
+use crate::answers::Bytes;
+use crate::reader::walk::{walk, Walked};
+use crate::reader::{runs, PAPER};
+use crate::salvage::model::{self, Entry};
+use crate::{shown, By, Chance};
+use lattrugone::dss::{self, DssReader};
+
+/// Once in so many random runs there are long frames.
+const LONG: usize = 200;
+
+pub fn compare(names: &mut Names, chance: &mut Chance, cases: u64) {
+    for first in PAPER {
+        for second in PAPER {
+            let run = [first, second].concat();
+            for cut in 0..=run.len() {
+                hold(names, &run[..cut]);
+            }
+        }
+    }
+    for _ in 0..cases {
+        let mut run = runs::random(chance, LONG);
+        for _ in 0..chance.below(4) {
+            run.damage(chance);
+        }
+        hold(names, &run.bytes);
+    }
+}
+
+fn hold(names: &mut Names, run: &[u8]) {
+    let (port, due) = (by_port(run), by_model(run));
+    names
+        .tally
+        .held(By::Model, "dss::salvage", shown(run), port, due);
+    let mut reader = DssReader::new(run.to_vec());
+    loop {
+        let due = walk(&run[reader.position()..]);
+        let Ok(Some((_, segments))) = reader.next_frame_counted() else {
+            let place = (reader.position(), matches!(due, Walked::Frame { .. }));
+            let due = (run.len() - reader.remaining(), false);
+            return names.document("DssReader::position", shown(run), place, due);
+        };
+        let port = Walked::Frame {
+            segments: segments as u64,
+        };
+        names.document("DssReader::next_frame_counted", shown(run), port, due);
+    }
+}
+
+/// An entry: a frame with its segments, or a place and an error.
+#[derive(PartialEq, Debug)]
+enum Found {
+    Frame(Head, Bytes, usize),
+    Refused(usize, String),
+}
+
+/// The entries and the tail's place.
+type Salvaged = (Vec<Found>, usize);
+
+fn by_port(run: &[u8]) -> Salvaged {
+    let found = |entry| match entry {
+        dss::Entry::Frame { frame, segments } => {
+            let (head, flags) = (&frame.header, frame.header.flags);
+            let flags = [
+                flags.chained,
+                flags.continue_on_error,
+                flags.same_correlation,
+            ];
+            let dss_type = head.dss_type.to_byte();
+            let head = (head.length, dss_type, flags, head.correlation_id);
+            Found::Frame(head, Bytes(frame.payload), segments)
+        }
+        dss::Entry::Refused { place, error } => Found::Refused(place, format!("{error:?}")),
+    };
+    let salvage = dss::salvage(run);
+    (
+        salvage.entries.into_iter().map(found).collect(),
+        salvage.tail,
+    )
+}
+
+fn by_model(run: &[u8]) -> Salvaged {
+    let found = |entry| match entry {
+        Entry::Frame(frame) => {
+            let head = frame.head;
+            let flags = [head.chained, head.continue_on_error, head.same_correlation];
+            let head = (head.length, head.kind, flags, head.correlation);
+            Found::Frame(head, Bytes(frame.payload), frame.segments)
+        }
+        Entry::Refused(refusal) => {
+            let case = match refusal.number {
+                2 => "InvalidMagic",
+                3 => "InvalidDssType",
+                _ => "LengthTooShort",
+            };
+            Found::Refused(refusal.place, format!("{case}({})", refusal.value))
+        }
+    };
+    let salvage = model::salvage(run);
+    (
+        salvage.entries.into_iter().map(found).collect(),
+        salvage.tail,
+    )
+}

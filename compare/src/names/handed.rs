@@ -1,0 +1,66 @@
+//! db2-proto with its modules dss and ddm handed on from lattrugone, by the lines that bindings/rust/README.md has for that: the
+//! crate db2-handed, which compare/oracle makes. Callers that are written for db2-proto and that README says compile unchanged
+//! are compiled over both, and come to the same.
+use super::objects::loses_bits;
+use super::{rust, Names};
+use crate::reader::{runs, PAPER};
+use crate::stops::unless_stopped;
+use crate::{shown, Chance};
+
+macro_rules! callers {
+    ($name:ident = $proto:ident) => {
+        mod $name {
+            use $proto as db2_proto;
+            include!("handed/callers.rs");
+        }
+    };
+}
+
+callers!(of_rust = db2_proto);
+callers!(of_handed = db2_handed);
+
+pub fn compare(names: &mut Names, chance: &mut Chance, cases: u64) {
+    for first in PAPER {
+        for second in PAPER {
+            hold(names, &[first, second].concat());
+        }
+    }
+    for case in 0..cases {
+        let mut run = runs::random(chance, usize::MAX);
+        if chance.below(2) == 0 {
+            run.damage(chance);
+        }
+        hold(names, &run.bytes);
+        let (id, number) = (case as u16, chance.next() as u32);
+        let written = (
+            of_handed::request(id, number, &run.bytes),
+            of_rust::request(id, number, &run.bytes),
+        );
+        names.tally.same("a request", &[], written.0, written.1);
+        hold(names, &of_rust::request(id, number, &run.bytes));
+    }
+}
+
+/// Keeps out where the Rust stops or loses bits.
+fn hold(names: &mut Names, run: &[u8]) {
+    let told = (of_handed::told(run), unless_stopped(|| of_rust::told(run)));
+    let found = (
+        format!("{:?}", of_handed::found(run)),
+        unless_stopped(|| format!("{:?}", of_rust::found(run))),
+    );
+    let frames = unless_stopped(|| rust::reader::Reader::new(run).all());
+    let astray = |payload: &[u8]| loses_bits(payload).is_some();
+    if let Some(Ok(frames)) = frames {
+        if frames.iter().any(|(_, payload)| astray(&payload.0)) {
+            return;
+        }
+    }
+    if let (Some(told_by_rust), Some(found_by_rust)) = (told.1, found.1) {
+        names
+            .tally
+            .same("a caller", shown(run), told.0, told_by_rust);
+        names
+            .tally
+            .same("a caller", shown(run), found.0, found_by_rust);
+    }
+}

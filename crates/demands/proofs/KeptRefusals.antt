@@ -1,0 +1,183 @@
+-- A refusal leaves what was lent as it was: over the records that the contracts cite.
+use Prim.Native.Nat.{ℕ, _+_, _-_, _≤_, _<_}
+use native.Mathlib.Omega.{arith}
+use mathlib.Core.Path.{_≡_, refl, sym, ap, _∙_}
+use mathlib.Core.Logic.{_⊎_, inl, inr}
+use mathlib.Core.Bool.{false}
+use mathlib.Core.List.{List}
+use lib.Dec.{leb}
+use lib.ListN.{length}
+use borrow.Author.Tests.{leb-true, leb-false}
+use Rattle.wire.specs.Laws.{by, pick-yes, pick-no}
+use Rattle.wire.specs.Splice.{laid-kept}
+use Rattle.answer.specs.Rooms.{noRoom, roomFor}
+use Rattle.answer.specs.declared.Refused.{Refused}
+use Rattle.answer.specs.declared.RoomFor.the-variants.{Enough}
+use Rattle.dss_head.specs.declared.DssType.{DssType}
+use Rattle.dss_head.specs.declared.TypeFound.{TypeFound}
+use Rattle.dss_head.specs.declared.TypeFound.the-variants.{Is, Refused as NoType}
+use Rattle.dss_frame.specs.Segments.{payloadOf}
+use Rattle.dss_frame.specs.Reading.{Frame, Read, frame, refused, readAt}
+use Rattle.dss_frame.specs.Frames.{AllRead, frames, refusedAll, allFrames}
+use Rattle.dss_frame.specs.Records.{payloadsOf}
+use Rattle.dss_frame.specs.Salvage.{salvaged}
+use Rattle.dss_frame.specs.Written.{Sent, written}
+use Rattle.dss_frame.specs.declared.DssFrame.{DssFrame}
+use Rattle.dss_frame.specs.declared.Rules.the-variants.{Reader}
+use Rattle.dss_take.specs.Take.{roomRead}
+use Rattle.dss_writer.specs.Writer.{wroteBy, Writes}
+use Rattle.dss_writer.specs.declared.DssWriter.{DssWriter}
+use Rattle.dss_writer.specs.declared.Wrote.{Wrote}
+use Rattle.dss_writer.specs.declared.Wrote.the-variants.{Done, Refused as NotWritten}
+use Rattle.dss_reader.specs.Reader.{standsAt, given, NextFrame, framesFit, givenAll, roomAll, rowAll, ReadAllFrames}
+use Rattle.dss_reader.specs.declared.DssReader.{DssReader}
+use Rattle.dss_reader.specs.declared.FrameRead.{FrameRead}
+use Rattle.dss_reader.specs.declared.FrameRead.the-variants.{Frame as Hands, Refused as NotRead}
+use Rattle.dss_reader.specs.declared.FramesRead.{FramesRead}
+use Rattle.dss_reader.specs.declared.FramesRead.the-variants.{Frames, Refused as NoneRead}
+use Rattle.dss_salvage.specs.SalvageCall as call
+use Rattle.dss_salvage.specs.declared.Salvaged.{Salvaged}
+use Rattle.dss_salvage.specs.declared.Salvaged.the-variants.{Done as Gathered, Refused as NotSalvaged}
+use Rattle.gateway_words.specs.Words.{refusalWords, Answered}
+use Rattle.gateway_row.specs.RowWords.{places}
+use Rattle.gateway_writer.specs.WriterWords.{wroteWords, wroteTyped, roomTyped, Sends}
+use Rattle.gateway_reader.specs.ReaderWords.{frameWords, ReadsFrame}
+use Rattle.gateway_frames.specs.FramesWords.{framesWords, rowWords, ReadsAllFrames}
+use Rattle.gateway_salvage.specs.SalvageWords.{salvagedWords, SalvagesInWords}
+use Rattle.demands.proofs.KeptMeaning.{RefusedInWords}
+use Rattle.demands.proofs.KeptFrame.{answer-says}
+
+-- ---- writing
+
+-- a frame fits, or it is longer than what the room has from the fill mark on
+fits-or : (fill size n : ℕ) → (roomFor fill size n ≡ Enough) ⊎ (size < fill + n)
+fits-or fill size n =
+    by (leb fill size)
+    (λ t. by (leb n (size - fill)) (λ u. inl (pick-yes _ _ t ∙ pick-yes _ _ u)) (λ u. inr (omega (arith, leb-true fill size t, leb-false n (size - fill) u))))
+    (λ t. inr (omega (arith, leb-false fill size t)))
+
+not-done : (v : DssWriter) (x : Refused) → Done v ≡ NotWritten x → ⊥
+not-done v x e = let z : _≡_ {A = ℕ} 0 1 = cc in omega arith
+
+pub writes-kept : (w : DssWriter) (f : Sent) (room : List ℕ) (x : Refused) (after : List ℕ) → Writes w f room (NotWritten x) after → after ≡ room
+writes-kept w f room x after p =
+    elim (fits-or (w .fill) (length room) (length (written f))) [
+      | inl e ↦ absurd (not-done _ x (sym (p .answers ∙ ap (wroteBy w (length (written f))) e)))
+      | inr h ↦ p .room-is ∙ laid-kept room (w .fill) (written f) h
+    ]
+
+-- ---- reading one frame
+
+kept-reading : (s : List ℕ) (p : ℕ) (room : List ℕ) (x : Read) (y : Refused) (d : DssReader) → NotRead y d ≡ given s p (length room) x
+    → (roomRead s room x ≡ room) × (d ≡ standsAt (y .place))
+kept-reading s p room (refused r) y d e = (refl, cc)
+kept-reading s p room (frame f) y d e =
+    by (leb (length (payloadOf s (f .segments))) (length room))
+    (λ t. let k = e ∙ pick-yes _ _ t in let z : _≡_ {A = ℕ} 0 1 = cc in absurd (omega arith))
+    (λ t.
+    let k : NotRead y d ≡ NotRead (noRoom p (length (payloadOf s (f .segments))) 0) (standsAt p) = e ∙ pick-no _ _ t in
+    let i : y ≡ noRoom p (length (payloadOf s (f .segments))) 0 = cc in
+    let j : d ≡ standsAt p = cc in
+    (laid-kept room 0 (payloadOf s (f .segments)) (omega (arith, leb-false (length (payloadOf s (f .segments))) (length room) t)), j ∙ ap (λ (q : Refused). standsAt (q .place)) (sym i)))
+
+pub reads-kept : (s : List ℕ) (p : ℕ) (room : List ℕ) (y : Refused) (d : DssReader) (after : List ℕ) → NextFrame s p room (NotRead y d) after
+    → (after ≡ room) × (d ≡ standsAt (y .place))
+reads-kept s p room y d after q =
+    let k = kept-reading s p room (readAt Reader s p) y d (q .answers) in
+    (q .room-is ∙ k .0, k .1)
+
+-- ---- reading all frames
+
+-- a refusal is the run's, or the call's because the frames don't fit
+none-read : (s : List ℕ) (p size rows : ℕ) (x : AllRead) (y : Refused) (d : DssReader) → NoneRead y d ≡ givenAll s p size rows x
+    → (P : AllRead → Type 0) → ((r : Refused) → y ≡ r → d ≡ standsAt (r .place) → P (refusedAll r))
+    → ((fs : List Frame) (q : ℕ) → framesFit s fs size rows ≡ false → y .place ≡ p → d ≡ standsAt p → P (frames fs q)) → P x
+none-read s p size rows (refusedAll r) y d e P f g =
+    let i : y ≡ r = cc in
+    let j : d ≡ standsAt (r .place) = cc in
+    f r i j
+none-read s p size rows (frames fs q) y d e P f g =
+    by (framesFit s fs size rows)
+    (λ t. let k = e ∙ pick-yes _ _ t in let z : _≡_ {A = ℕ} 0 1 = cc in absurd (omega arith))
+    (λ t.
+    let k : NoneRead y d ≡ NoneRead (noRoom p (length (payloadsOf s fs)) (length fs)) (standsAt p) = e ∙ pick-no _ _ t in
+    let i : y ≡ noRoom p (length (payloadsOf s fs)) (length fs) = cc in
+    let j : d ≡ standsAt p = cc in
+    g fs q t (ap (λ (z : Refused). z .place) i) j)
+
+module _ (s : List ℕ) (p : ℕ) (room : List ℕ) (y : Refused) (d : DssReader) where
+  stands-kept : (rows : ℕ) (x : AllRead) → NoneRead y d ≡ givenAll s p (length room) rows x → d ≡ standsAt (y .place)
+  stands-kept rows x e =
+      none-read s p (length room) rows x y d e (λ z. d ≡ standsAt (y .place)) (λ r i j. j ∙ ap (λ (z : Refused). standsAt (z .place)) (sym i)) (λ fs q t i j. j ∙ ap standsAt (sym i))
+
+  room-kept : (rows : ℕ) (x : AllRead) → NoneRead y d ≡ givenAll s p (length room) rows x → roomAll s room rows x ≡ room
+  room-kept rows x e = none-read s p (length room) rows x y d e (λ z. roomAll s room rows z ≡ room) (λ r i j. refl) (λ fs q t i j. pick-no _ _ t)
+
+  pub all-kept : (row : List DssFrame) (room-after : List ℕ) (row-after : List DssFrame) → ReadAllFrames s p room row (NoneRead y d) room-after row-after
+      → (room-after ≡ room) × (row-after ≡ row) × (d ≡ standsAt (y .place))
+  all-kept row room-after row-after q =
+      let e = q .answers in (
+        q .room-is ∙ room-kept (length row) (allFrames s p) e,
+        q .row-is ∙ none-read s p (length room) (length row) (allFrames s p) y d e (λ z. rowAll s (length room) row z ≡ row) (λ r i j. refl) (λ fs k t i j. pick-no _ _ t),
+        stands-kept (length row) (allFrames s p) e,
+      )
+
+  row-kept : (row : List ℕ) → NoneRead y d ≡ givenAll s p (length room) (places row) (allFrames s p) → rowWords s (length room) row (allFrames s p) ≡ row
+  row-kept row e = none-read s p (length room) (places row) (allFrames s p) y d e (λ z. rowWords s (length room) row z ≡ row) (λ r i j. refl) (λ fs k t i j. pick-no _ _ t)
+
+-- ---- salvage
+
+not-fit : (s : List ℕ) (size rows : ℕ) (y : Refused) → NotSalvaged y ≡ call.given s size rows (salvaged s) → call.entriesFit s (salvaged s .entries) size rows ≡ false
+not-fit s size rows y e =
+    by (call.entriesFit s (salvaged s .entries) size rows)
+    (λ t. let k = e ∙ pick-yes _ _ t in let z : _≡_ {A = ℕ} 0 1 = cc in absurd (omega arith))
+    (λ t. t)
+
+typed-kept : (found : TypeFound) (w : DssWriter) (f : DssType → Sent) (room : List ℕ) (y : Refused) → wroteTyped found w f (length room) ≡ NotWritten y → roomTyped found w f room ≡ room
+typed-kept (Is t) w f room y e = writes-kept w (f t) room y (roomTyped (Is t) w f room) (record { answers = sym e; room-is = refl })
+typed-kept (NoType r) w f room y e = refl
+
+-- ---- in words: another number than 0 is a refusal's
+
+module _ (words : List ℕ) (n : ℕ) (answer : List ℕ) (nz : n ≡ 0 → ⊥) where
+  of-words : (y : Refused) → Answered (refusalWords y) words n answer → RefusedInWords words n answer
+  of-words y a = record { why = y; number-is = a .number-is; words-say = λ h. answer-says refl h a; words-kept = λ h. a .words-are ∙ laid-kept words 0 (refusalWords y) (omega arith) }
+
+  of-wrote : (x : Wrote) → Answered (wroteWords x) words n answer → record { y : Refused; is : x ≡ NotWritten y; said : RefusedInWords words n answer }
+  of-wrote (Done w) a = absurd (nz (a .number-is))
+  of-wrote (NotWritten y) a = record { y = y; is = refl; said = of-words y a }
+
+  of-read : (x : FrameRead) → Answered (frameWords x) words n answer → record { y : Refused; d : DssReader; is : x ≡ NotRead y d; said : RefusedInWords words n answer }
+  of-read (Hands f d) a = absurd (nz (a .number-is))
+  of-read (NotRead y d) a = record { y = y; d = d; is = refl; said = of-words y a }
+
+  of-frames : (x : FramesRead) → Answered (framesWords x) words n answer → record { y : Refused; d : DssReader; is : x ≡ NoneRead y d; said : RefusedInWords words n answer }
+  of-frames (Frames c b d) a = absurd (nz (a .number-is))
+  of-frames (NoneRead y d) a = record { y = y; d = d; is = refl; said = of-words y a }
+
+  of-salvaged : (x : Salvaged) → Answered (salvagedWords x) words n answer → record { y : Refused; is : x ≡ NotSalvaged y; said : RefusedInWords words n answer }
+  of-salvaged (Gathered c b t) a = absurd (nz (a .number-is))
+  of-salvaged (NotSalvaged y) a = record { y = y; is = refl; said = of-words y a }
+
+  pub sends-kept : (found : TypeFound) (w : DssWriter) (f : DssType → Sent) (room after : List ℕ) → Sends found w f room words n after answer → RefusedInWords words n answer × (after ≡ room)
+  sends-kept found w f room after p =
+      let x = of-wrote (wroteTyped found w f (length room)) (p .answers) in
+      (x .said, p .room-is ∙ typed-kept found w f room (x .y) (x .is))
+
+  pub frame-kept : (s : List ℕ) (p : ℕ) (room after : List ℕ) → ReadsFrame s p room words n after answer → RefusedInWords words n answer × (after ≡ room)
+  frame-kept s p room after q =
+      let x = of-read (given s p (length room) (readAt Reader s p)) (q .answers) in
+      (x .said, q .room-is ∙ kept-reading s p room (readAt Reader s p) (x .y) (x .d) (sym (x .is)) .0)
+
+  pub frames-kept : (s : List ℕ) (p : ℕ) (room row room-after row-after : List ℕ) → ReadsAllFrames s p room row words n room-after row-after answer
+      → RefusedInWords words n answer × (room-after ≡ room) × (row-after ≡ row)
+  frames-kept s p room row room-after row-after q =
+      let x = of-frames (givenAll s p (length room) (places row) (allFrames s p)) (q .answers) in
+      (x .said, q .room-is ∙ room-kept s p room (x .y) (x .d) (places row) (allFrames s p) (sym (x .is)), q .row-is ∙ row-kept s p room (x .y) (x .d) row (sym (x .is)))
+
+  pub salvage-kept : (s room row room-after row-after : List ℕ) → SalvagesInWords s room row words n room-after row-after answer
+      → RefusedInWords words n answer × (room-after ≡ room) × (row-after ≡ row)
+  salvage-kept s room row room-after row-after q =
+      let x = of-salvaged (call.given s (length room) (places row) (salvaged s)) (q .answers) in
+      let t = not-fit s (length room) (places row) (x .y) (sym (x .is)) in
+      (x .said, q .room-is ∙ pick-no _ _ t, q .row-is ∙ pick-no _ _ t)

@@ -1,0 +1,80 @@
+-- `replay_rows::frames::lay_entries` is safe and ends.
+use Prim.Native.Nat.{_≤_, _-_}
+use mathlib.Core.Path.{_≡_}
+use borrow.Author.Needs.{needs}
+use lib.ListN.{length}
+use Rattle.replay_rows.proofs.frames.lay_entries.Statement.{statement}
+use Rattle.replay_rows.proofs.frames.lay_entries.Tie as tie
+
+abbrev Inv-loop : tie.InvT-loop
+Inv-loop row₀ records i₀ row i = (i ≤ 16) × (length row ≡ length row₀)
+
+abbrev μ-loop : tie.MeasureT-loop
+μ-loop row₀ records i₀ row i = 16 - i
+
+loop-holds : tie.Need-loop-holds Inv-loop μ-loop
+loop-holds c = search needs
+
+mul-at-most : tie.Need-mul-at-most Inv-loop μ-loop
+mul-at-most c = search needs
+
+at-most-requires : tie.Need-at-most-requires Inv-loop μ-loop
+at-most-requires c κs = search needs
+
+mul-record : tie.Need-mul-record Inv-loop μ-loop
+mul-record c = search needs
+
+array-copy-out-record : tie.Need-array-copy-out-record Inv-loop μ-loop
+array-copy-out-record c = search needs
+
+mul-put-entry : tie.Need-mul-put-entry Inv-loop μ-loop
+mul-put-entry c = search needs
+
+sub-put-entry : tie.Need-sub-put-entry Inv-loop μ-loop
+sub-put-entry c = search needs
+
+part-put-entry-start : tie.Need-part-put-entry-start Inv-loop μ-loop
+part-put-entry-start c = search needs
+
+part-put-entry-end : tie.Need-part-put-entry-end Inv-loop μ-loop
+part-put-entry-end c = search needs
+
+put-entry-requires : tie.Need-put-entry-requires Inv-loop μ-loop
+put-entry-requires c κs = search needs
+
+add-i : tie.Need-add-i Inv-loop μ-loop
+add-i c = search needs
+
+loop-less : tie.Need-loop-less Inv-loop μ-loop
+loop-less c = search needs
+
+loop-again : tie.Need-loop-again Inv-loop μ-loop
+loop-again c = search needs
+
+same-length : tie.Need-same-length Inv-loop μ-loop
+same-length c = search needs
+
+returns : tie.Need-returns Inv-loop μ-loop
+returns c = search needs
+
+pub lay-entries-spec : {M : Type 1} → statement M
+lay-entries-spec =
+    tie.close
+    (tie.spec
+    Inv-loop
+    μ-loop
+    loop-holds
+    mul-at-most
+    at-most-requires
+    mul-record
+    array-copy-out-record
+    mul-put-entry
+    sub-put-entry
+    part-put-entry-start
+    part-put-entry-end
+    put-entry-requires
+    add-i
+    loop-less
+    loop-again
+    same-length
+    returns)
