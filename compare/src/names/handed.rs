@@ -2,7 +2,7 @@
 //! crate db2-handed, which compare/oracle makes. Callers that are written for db2-proto and that README says compile unchanged
 //! are compiled over both, and come to the same.
 use super::objects::loses_bits;
-use super::{rust, Names};
+use super::Names;
 use crate::reader::{runs, PAPER};
 use crate::stops::unless_stopped;
 use crate::{shown, Chance};
@@ -41,20 +41,26 @@ pub fn compare(names: &mut Names, chance: &mut Chance, cases: u64) {
     }
 }
 
+/// The payloads of the frames that the Rust gives before it ends, refuses or stops.
+fn payloads(run: &[u8]) -> Vec<Vec<u8>> {
+    let mut reader = db2_proto::dss::DssReader::new(run.to_vec());
+    let mut all = Vec::new();
+    while let Some(Ok(Some(frame))) = unless_stopped(|| reader.next_frame()) {
+        all.push(frame.payload);
+    }
+    all
+}
+
 /// Keeps out where the Rust stops or loses bits.
 fn hold(names: &mut Names, run: &[u8]) {
+    if payloads(run).iter().any(|p| loses_bits(p).is_some()) {
+        return;
+    }
     let told = (of_handed::told(run), unless_stopped(|| of_rust::told(run)));
     let found = (
         format!("{:?}", of_handed::found(run)),
         unless_stopped(|| format!("{:?}", of_rust::found(run))),
     );
-    let frames = unless_stopped(|| rust::reader::Reader::new(run).all());
-    let astray = |payload: &[u8]| loses_bits(payload).is_some();
-    if let Some(Ok(frames)) = frames {
-        if frames.iter().any(|(_, payload)| astray(&payload.0)) {
-            return;
-        }
-    }
     if let (Some(told_by_rust), Some(found_by_rust)) = (told.1, found.1) {
         names
             .tally
