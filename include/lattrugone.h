@@ -1,7 +1,7 @@
 /*
- * Lattrugone: DRDA's framing, proved. Frames (DSS) are written and read, objects (DDM) are built and read, and a damaged run
- * is salvaged. Plain C99, also for C++. Nothing is allocated, kept between calls or shared between threads: a call touches
- * what it is lent and nothing else, and it ends on every input.
+ * Lattrugone: DRDA's framing, proved. Frames (DSS) are written and read, objects (DDM) are built and read, one parameter of a
+ * request already built is changed, and a damaged run is salvaged. Plain C99, also for C++. Nothing is allocated, kept between
+ * calls or shared between threads: a call touches what it is lent and nothing else, and it ends on every input.
  *
  * To link: the archives that bindings/archives makes and names, in any order. They need no other library.
  *
@@ -19,17 +19,17 @@
  *
  * Where `words` has fewer than eight, it stays as it was and only the number is known; where it has more, the others stay.
  *
- * REFUSALS. A refusal's place is the first byte of the head, object or parameter that is refused; for NOT_WHOLE, NO_ROOM,
- * OUT_OF_BOUNDS and NONE it is the position or fill mark as given, 0 where the call has neither. A refusal leaves every lent
- * room, work area and row as it was. With DONE, bytes and words outside the result stay as they were. NO_ROOM is given only
- * where nothing else refuses, with what would have been enough: lend that much, call again, and it is done. The need is counted
- * from the fill mark where a function has one (write_.., builder_add_..): lend fill mark and need. So a call with nothing lent,
- * and fill mark 0, asks for the need.
+ * REFUSALS. A refusal's place is the first byte of the head, object or parameter that is refused, or for UNSOUND of what is
+ * left over; for NOT_WHOLE, NO_ROOM, OUT_OF_BOUNDS, NONE and UNREADABLE it is the position or fill mark as given, 0 where the
+ * call has neither. A refusal leaves every lent room, work area and row as it was. With DONE, bytes and words outside the
+ * result stay as they were. NO_ROOM is given only where nothing else refuses, with what would have been enough: lend that much,
+ * call again, and it is done. The need is counted from the fill mark where a function has one (write_.., builder_add_..): lend
+ * fill mark and need. So a call with nothing lent, and fill mark 0, asks for the need.
  *
  * ROWS. A list goes into a row of uint64_t, eight words a record: row_len / 8 records have room, words beyond stay.
  *
- * docs/DIFFERENCES.md says where the answers differ from db2-proto's and from DRDA volume 3. bindings/c/example.c is an example
- * to copy.
+ * docs/DIFFERENCES.md says where the answers differ from db2-proto's and from DRDA volume 3. bindings/c/example.c and
+ * bindings/c/alter.c are examples to copy.
  */
 #ifndef LATTRUGONE_H
 #define LATTRUGONE_H
@@ -61,7 +61,9 @@ enum lattrugone_answer {
     LATTRUGONE_LENGTH_TOO_LARGE = 8,     /* extended DDM length and header above 2^64 - 1 [header length] */
     LATTRUGONE_NO_ROOM = 9,              /* no room [bytes needed from the fill mark on, records needed; 2^64 - 1 where more] */
     LATTRUGONE_OUT_OF_BOUNDS = 10,       /* position or fill mark beyond its buffer [it, the buffer's length] */
-    LATTRUGONE_NONE = 11                 /* no such parameter, or too few bytes for the number asked */
+    LATTRUGONE_NONE = 11,                /* no such parameter, or too few bytes for the number asked */
+    LATTRUGONE_UNSOUND = 17,             /* parameters that don't fill their data, raw length 0x8004, or bytes left over */
+    LATTRUGONE_UNREADABLE = 18           /* the frame's last chunk would be full: next_frame wouldn't find it whole */
 };
 
 /* Where what stands in an answer's words. */
@@ -365,6 +367,36 @@ uint8_t lattrugone_build_param_u16(uint16_t code_point, uint16_t value, uint8_t 
                                    size_t words_len);
 uint8_t lattrugone_build_ddm_object(uint16_t code_point, const uint8_t *payload, size_t payload_len, uint8_t *room,
                                     size_t room_len, uint64_t *words, size_t words_len);
+
+/* ---- Changing one parameter ------------------------------------------------------------------------------------------- */
+
+/* The first parameter with a code point gets new bytes, and the header that the builder writes for so many; every other
+ * parameter is copied as it is. What is given stays as it was, so it can be changed again and again. */
+
+/* Lays an object's data down at the room's first byte, with that parameter changed.
+ * DONE: words[RESULT] how many bytes.
+ * In this order: UNSOUND at the parameter at fault: one of raw length 0x8004, an unfit one, or 1 to 3 last bytes; NONE at 0;
+ * NO_ROOM at 0. */
+uint8_t lattrugone_change_param(const uint8_t *data, size_t data_len, uint16_t code_point, const uint8_t *new_bytes,
+                                size_t new_len, uint8_t *room, size_t room_len, uint64_t *words, size_t words_len);
+
+/* How many bytes that lays down with so many new ones.
+ * DONE: words[RESULT] how many; 2^64 - 1 where that is more. In this order: UNSOUND as in change_param, NONE at 0. */
+uint8_t lattrugone_change_param_len(const uint8_t *data, size_t data_len, uint16_t code_point, size_t new_len, uint64_t *words,
+                                    size_t words_len);
+
+/* Lays a frame down at the room's first byte, with that parameter of its one object changed: a request as it was built goes in,
+ * the altered one comes out. A frame of any type will do. Its format byte, all flags and 0x80 included, and its correlation are
+ * copied as they are; the object gets the header that the builder writes and the frame the segments that the writer does.
+ * DONE: words[RESULT] how many bytes.
+ * In this order: NOT_WHOLE, BAD_MAGIC, BAD_TYPE, LENGTH_TOO_SHORT at 0, of the one frame, nothing being absorbed; UNSOUND where
+ * bytes are left over behind its one object or behind the frame, at the first of them; the object's TOO_FEW_BYTES,
+ * HEADER_TOO_SHORT, LENGTH_TOO_LARGE and INLINE_TOO_SHORT as `object` has them, at 6; UNSOUND at 6 where the object is of raw
+ * length 0x8004; UNSOUND as in change_param; NONE at 0; UNREADABLE at 0, where the payload would be 32,761 and one or more times
+ * 32,765 bytes (see next_frame); NO_ROOM at 0.
+ * A place is a byte of the frame that is given, the heads of its continuations counted in. */
+uint8_t lattrugone_change_request(const uint8_t *frame, size_t frame_len, uint16_t code_point, const uint8_t *new_bytes,
+                                  size_t new_len, uint8_t *room, size_t room_len, uint64_t *words, size_t words_len);
 
 #ifdef __cplusplus
 }

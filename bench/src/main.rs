@@ -7,6 +7,7 @@
 //! row and words were written before, and input and room are touched just before. A memcpy copies the same payload bytes from
 //! the run into lent room, as the port does.
 
+mod change;
 mod clock;
 mod frames;
 mod inputs;
@@ -27,7 +28,7 @@ const WORDS: Words = [0; 8];
 /// A line's name, and what times it.
 type Plan = (&'static str, fn(&str, usize) -> Line);
 
-const PLAN: [Plan; 16] = [
+const PLAN: [Plan; 18] = [
     ("next_frame, 600 frames of 100 bytes", |name, n| {
         next_frame(name, n, &inputs::frames(600, 100))
     }),
@@ -70,6 +71,8 @@ const PLAN: [Plan; 16] = [
     ("marker removal, 4 MB", |name, n| {
         markers(name, n / 4, &inputs::marked(4 * MB))
     }),
+    ("change one parameter among 40", change::param),
+    ("change a request with 40 parameters", change::request),
 ];
 
 /// What is timed on 1 MB and on 4 MB.

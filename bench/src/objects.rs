@@ -9,7 +9,7 @@ use lattrugone::port;
 use std::hint::black_box;
 
 /// Times two calls that take less than a microsecond, each made `CALLS` times a repeat.
-fn short(name: &str, repeats: usize, mut rust: impl FnMut(), mut port: impl FnMut()) -> Line {
+pub fn short(name: &str, repeats: usize, mut rust: impl FnMut(), mut port: impl FnMut()) -> Line {
     let [rust, port] = fastest(
         repeats,
         [

@@ -102,13 +102,18 @@ static void objects_and_builder(void)
     ANSWERS(NO_ROOM, lattrugone_build_param(0x2412, b, 0, b, 0, w, n));
     ANSWERS(NO_ROOM, lattrugone_build_param_u16(0x2412, 1, b, 0, w, n));
     ANSWERS(NO_ROOM, lattrugone_build_ddm_object(0x200D, b, 0, b, 0, w, n));
+    ANSWERS(NONE, lattrugone_change_param(b, 0, 0x2412, b, 0, b, 0, w, n));
+    ANSWERS(NONE, lattrugone_change_param_len(b, 0, 0x2412, 0, w, n));
+    ANSWERS(LATTRUGONE_NOT_WHOLE, lattrugone_change_request(b, 0, 0x2412, b, 0, b, 0, w, n));
 }
 
-/* With room and nothing else: what is empty is written and built. */
+/* With room and nothing else: what is empty is written and built, and a parameter is emptied. */
 static void empty_payloads(void)
 {
     static const uint8_t frame[6] = {0x00, 0x06, 0xD0, 0x01, 0x00, 0x01}, object[4] = {0x00, 0x04, 0x20, 0x0D};
-    uint8_t room[8] = {0};
+    static const uint8_t request[15] = {0x00, 0x0F, 0xD0, 0x01, 0x00, 0x01, 0x00, 0x09, 0x20, 0x0D, 0x00, 0x05, 0x24, 0x12, 0xC1};
+    static const uint8_t emptied[14] = {0x00, 0x0E, 0xD0, 0x01, 0x00, 0x01, 0x00, 0x08, 0x20, 0x0D, 0x00, 0x04, 0x24, 0x12};
+    uint8_t room[16] = {0};
 
     IS(DONE, lattrugone_build_dss_request(1, 0, NULL, 0, room, sizeof room, NULL, 0));
     IS(0, memcmp(room, frame, sizeof frame));
@@ -116,6 +121,12 @@ static void empty_payloads(void)
     IS(DONE, lattrugone_build_ddm_object(0x200D, NULL, 0, room, sizeof room, NULL, 0));
     IS(0, memcmp(room, object, sizeof object));
     IS(DONE, lattrugone_object(object, sizeof object, 0, NULL, 0, NULL, 0));
+    IS(NO_ROOM, lattrugone_change_param(request + 10, 5, 0x2412, NULL, 0, NULL, 0, NULL, 0));
+    IS(DONE, lattrugone_change_param(request + 10, 5, 0x2412, NULL, 0, room, sizeof room, NULL, 0));
+    IS(0, memcmp(room, emptied + 10, 4));
+    IS(NO_ROOM, lattrugone_change_request(request, sizeof request, 0x2412, NULL, 0, NULL, 0, NULL, 0));
+    IS(DONE, lattrugone_change_request(request, sizeof request, 0x2412, NULL, 0, room, sizeof room, NULL, 0));
+    IS(0, memcmp(room, emptied, sizeof emptied));
 }
 
 int main(void)

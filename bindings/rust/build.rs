@@ -2,7 +2,7 @@
 // or from target/staticlib of the repository that this crate stands in.
 use std::{env, path::PathBuf};
 
-const ARCHIVES: [&str; 8] = [
+const ARCHIVES: [&str; 9] = [
     "gateway",
     "gateway_writer",
     "gateway_reader",
@@ -11,6 +11,7 @@ const ARCHIVES: [&str; 8] = [
     "gateway_object",
     "gateway_object_rows",
     "gateway_builder",
+    "gateway_change",
 ];
 
 fn main() {

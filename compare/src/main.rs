@@ -3,6 +3,7 @@
 //! `compare [CASES] [SEED]`: how many random inputs each part tries besides those that it tries one and all, and which ones.
 //! `compare --record FILE` records the Rust's answers (record.rs).
 mod answers;
+mod change;
 mod ddm;
 mod head;
 mod lengths;
@@ -33,6 +34,8 @@ pub enum By {
     Rust,
     /// The model of the salvage reading, which the Rust doesn't have.
     Model,
+    /// The model of changing one parameter, which the Rust doesn't have either.
+    Change,
     /// Document 01 alone, as this program reads it.
     Document,
 }
@@ -42,6 +45,7 @@ pub enum By {
 pub struct Tally {
     rust: u64,
     model: u64,
+    change: u64,
     document: u64,
     different: u64,
 }
@@ -82,6 +86,7 @@ impl Tally {
         *match by {
             By::Rust => &mut self.rust,
             By::Model => &mut self.model,
+            By::Change => &mut self.change,
             By::Document => &mut self.document,
         } += 1;
         self.equal(what, input, ("port", port), ("due", due));
@@ -122,6 +127,10 @@ impl Tally {
         println!(
             "compare: besides, {} held to document 01 alone: 7 to 10, what is beyond a run or 2^64 - 1, demand 3",
             self.document
+        );
+        println!(
+            "compare: besides, {} held to the model of changing one parameter",
+            self.change
         );
         println!("{} compared, {} different", rust + model, self.different);
         std::process::exit(if self.different == 0 { 0 } else { 1 });
@@ -212,6 +221,7 @@ fn main() {
     salvage::compare(&mut tally, &mut chance, cases);
     ddm::compare(&mut tally, &mut chance, cases);
     names::compare(&mut tally, &mut chance, cases);
+    change::compare(&mut tally, &mut chance, cases);
     traffic::compare(&mut tally, Path::new(CAPTURES));
     tally.end();
 }

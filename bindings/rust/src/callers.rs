@@ -99,6 +99,10 @@
 //!         Other(_) => 5,
 //!         LengthTooShort(_) => 7,
 //!         LengthTooLarge(_) => 8,
+//!         Incomplete => 1,
+//!         NotFound => 11,
+//!         UnsoundData { .. } => 17,
+//!         UnreadableSize => 18,
 //!     }
 //! }
 //! ```

@@ -1,9 +1,11 @@
-//! DSS: heads, the writer, the reader, the salvage reading. By db2-proto's names.
+//! DSS: heads, the writer, the reader, the salvage reading, a request changed. By db2-proto's names.
+mod change;
 mod head;
 mod reader;
 mod salvage;
 mod writer;
 
+pub use change::change_request;
 pub use head::{DssFlags, DssHeader, DssType};
 pub use reader::{DssFrame, DssReader};
 pub use salvage::{salvage, Entry, Salvage};

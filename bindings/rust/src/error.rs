@@ -1,7 +1,8 @@
 use crate::port::Words;
 use std::fmt;
 
-/// Why something wasn't read: db2-proto's cases that its modules dss and ddm give, and two for what stops it there.
+/// Why something wasn't read or changed: db2-proto's cases that its modules dss and ddm give, two for what stops it there, and
+/// four of what is added, [`crate::dss::change_request`] and [`crate::ddm::DdmObject::with_param`].
 #[derive(Debug, Clone, PartialEq)]
 pub enum ProtoError {
     /// A head's third byte isn't D0.
@@ -19,6 +20,18 @@ pub enum ProtoError {
     LengthTooShort(u16),
     /// An extended DDM length, with its header of so many bytes, is above 2^64 - 1. db2-proto loses bits or stops.
     LengthTooLarge(usize),
+    /// The frame that is to be changed isn't whole.
+    Incomplete,
+    /// There is no parameter with that code point.
+    NotFound,
+    /// What is to be changed isn't sound: parameters don't fill their data, a raw length is 0x8004, or bytes are left over
+    /// behind a frame or its one object.
+    UnsoundData {
+        /// The first byte of the parameter or object at fault, or of what is left over.
+        place: usize,
+    },
+    /// The changed frame would end in a full chunk: the reader wouldn't find it whole.
+    UnreadableSize,
     /// An inline DDM length below 4, or an extended DDM header below 4: db2-proto's text.
     Other(String),
 }
@@ -43,6 +56,10 @@ impl fmt::Display for ProtoError {
                     "extended DDM length behind a header of {header} bytes is too large"
                 )
             }
+            ProtoError::Incomplete => write!(f, "frame isn't whole"),
+            ProtoError::NotFound => write!(f, "no such parameter"),
+            ProtoError::UnsoundData { place } => write!(f, "unsound data at byte {place}"),
+            ProtoError::UnreadableSize => write!(f, "changed frame would end in a full chunk"),
             ProtoError::Other(text) => write!(f, "{text}"),
         }
     }
@@ -74,6 +91,7 @@ impl Refusal {
     pub fn error(&self) -> ProtoError {
         let [number, place, first, second, third, ..] = self.0;
         match number {
+            1 => ProtoError::Incomplete,
             2 => ProtoError::InvalidMagic(first as u8),
             3 => ProtoError::InvalidDssType(first as u8),
             4 => ProtoError::BufferTooShort {
@@ -88,6 +106,11 @@ impl Refusal {
             )),
             7 => ProtoError::LengthTooShort(first as u16),
             8 => ProtoError::LengthTooLarge(first as usize),
+            11 => ProtoError::NotFound,
+            17 => ProtoError::UnsoundData {
+                place: place as usize,
+            },
+            18 => ProtoError::UnreadableSize,
             // No function of this crate is refused with another number: it lends the room and keeps its own positions.
             _ => ProtoError::Other(format!("refused with number {number} at {place}")),
         }

@@ -26,7 +26,7 @@
 //! - Where the Rust stops or loses length bits, there is an error: [`ProtoError::LengthTooShort`] for a DSS length below 6,
 //!   [`ProtoError::LengthTooLarge`] for an extended DDM length above 2^64 - 1. No input makes a call panic, unless there is no
 //!   memory for what it needs.
-//! - [`ProtoError`] has the cases that these two modules give.
+//! - [`ProtoError`] has the cases that these two modules give, and those of what is added.
 //! - Left out: the string forms `as_utf8`, `as_ebcdic`, `add_string`, `add_ebcdic_string`, and the module `codepage`.
 //!   `String::from_utf8(param.data)` and `add_code_point(cp, s.as_bytes())` stand in for two of them.
 //!
@@ -34,6 +34,7 @@
 //!
 //! - [`dss::salvage`] hands out all that can be read of a damaged run.
 //! - [`dss::DssReader::position`], and [`dss::DssReader::next_frame_counted`], which says of how many segments a frame is.
+//! - [`dss::change_request`] changes one parameter of a request already built, [`ddm::DdmObject::with_param`] one of an object.
 //! - [`port`]: the archives' functions as they are, for a caller that lends its own room and wants nothing allocated.
 //!
 //! # What is proved

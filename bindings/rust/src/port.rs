@@ -152,3 +152,13 @@ port! {
     /// An object at the room's first byte.
     fn build_ddm_object = lattrugone_build_ddm_object(code_point: u16, payload: &[u8], room: &mut [u8], words: &mut [u64]) -> u8;
 }
+
+// ---- changing one parameter
+port! {
+    /// An object's data with the first parameter of a code point changed.
+    fn change_param = lattrugone_change_param(data: &[u8], code_point: u16, new: &[u8], room: &mut [u8], words: &mut [u64]) -> u8;
+    /// How many bytes that is, with so many new ones.
+    fn change_param_len = lattrugone_change_param_len(data: &[u8], code_point: u16, new_len: usize, words: &mut [u64]) -> u8;
+    /// A frame with the first parameter of a code point in its one object changed.
+    fn change_request = lattrugone_change_request(frame: &[u8], code_point: u16, new: &[u8], room: &mut [u8], words: &mut [u64]) -> u8;
+}

@@ -1,7 +1,7 @@
 //! The archives' functions as they are: what a caller that lends its own room meets.
 mod common;
 use common::{hex, pattern};
-use lattrugone::ddm::DdmObject;
+use lattrugone::ddm::{build_ddm_object, DdmObject};
 use lattrugone::dss::build_dss_object;
 use lattrugone::port::{self, Words, WORDS};
 
@@ -205,5 +205,78 @@ fn frame_ends() {
     assert_eq!(
         words(|w| port::first_frame_end(&run, w)),
         [0, 0, 6, 0, 0, 0, 0, 0]
+    );
+}
+
+#[test]
+fn a_changed_parameter() {
+    let data = hex("0005 2412 01 0004 2413 0005 2412 02");
+    let changed = hex("0005 2412 01 0006 2413 F0F4 0005 2412 02");
+    assert_eq!(
+        words(|w| port::change_param_len(&data, 0x2413, 2, w)),
+        [0, 0, 16, 0, 0, 0, 0, 0]
+    );
+    let mut room = [0x11; 18];
+    let short = words(|w| port::change_param(&data, 0x2413, &[0xF0, 0xF4], &mut room[..15], w));
+    assert_eq!((short, room), ([9, 0, 16, 0, 0, 0, 0, 0], [0x11; 18]));
+    let laid = words(|w| port::change_param(&data, 0x2413, &[0xF0, 0xF4], &mut room, w));
+    assert_eq!(laid, [0, 0, 16, 0, 0, 0, 0, 0]);
+    assert_eq!(room.to_vec(), [&changed[..], &[0x11; 2]].concat());
+    // refused: nothing is laid down, and only the place tells one 17 from another
+    let mut room = [0x11; 40];
+    for (digits, code_point, refusal) in [
+        ("0005 2412 01 0004 2413", 0x2414, [11, 0]),
+        ("0005 2412 01 0003 2413", 0x2414, [17, 5]),
+        ("0005 2412 01 8004 2413", 0x2412, [17, 5]),
+    ] {
+        let data = hex(digits);
+        let expected = [refusal[0], refusal[1], 0, 0, 0, 0, 0, 0];
+        let answer = words(|w| port::change_param(&data, code_point, b"0412", &mut room, w));
+        let asked = words(|w| port::change_param_len(&data, code_point, 4, w));
+        assert_eq!((answer, asked), (expected, expected));
+        let frame = build_dss_object(1, false, &build_ddm_object(0x2001, &data));
+        let place = if refusal[0] == 17 { 10 + refusal[1] } else { 0 };
+        let answer = words(|w| port::change_request(&frame, code_point, b"0412", &mut room, w));
+        assert_eq!(answer, [refusal[0], place, 0, 0, 0, 0, 0, 0]);
+    }
+    assert_eq!(room, [0x11; 40]);
+    assert_eq!(
+        words(|w| port::change_param_len(&data, 0x2412, usize::MAX, w)),
+        [0, 0, u64::MAX, 0, 0, 0, 0, 0]
+    );
+    assert_eq!(
+        words(|w| port::change_param_len(&data, 0x2412, usize::MAX - 21, w)),
+        [0, 0, u64::MAX, 0, 0, 0, 0, 0]
+    );
+    assert_eq!(
+        words(|w| port::change_param_len(&data, 0x2412, usize::MAX - 22, w)),
+        [0, 0, u64::MAX - 1, 0, 0, 0, 0, 0]
+    );
+}
+
+#[test]
+fn a_changed_request() {
+    let frame = hex("000F D063 0001 0009 2001 0005 2412 01");
+    let mut room = [0x11; 20];
+    let short = words(|w| port::change_request(&frame, 0x2412, &hex("F0F4"), &mut room[..15], w));
+    assert_eq!((short, room), ([9, 0, 16, 0, 0, 0, 0, 0], [0x11; 20]));
+    let laid = words(|w| port::change_request(&frame, 0x2412, &hex("F0F4"), &mut room, w));
+    assert_eq!(laid, [0, 0, 16, 0, 0, 0, 0, 0]);
+    assert_eq!(
+        room.to_vec(),
+        hex("0010 D063 0001 000A 2001 0006 2412 F0F4 11111111")
+    );
+    let full = words(|w| port::change_request(&frame, 0x2412, &pattern(65510), &mut [], w));
+    assert_eq!(full, [18, 0, 0, 0, 0, 0, 0, 0]);
+    let cut = words(|w| port::change_request(&frame[..14], 0x2412, &[], &mut room, w));
+    assert_eq!(cut, [1, 0, 0, 0, 0, 0, 0, 0]);
+    let mut few = [KEPT; WORDS - 1];
+    assert_eq!(
+        port::change_request(&frame, 0x2412, &[], &mut [0; 14], &mut few),
+        0
+    );
+    assert_eq!(
+        (port::change_param_len(&[], 0x2412, 0, &mut few), few),
+        (11, [KEPT; WORDS - 1])
     );
 }

@@ -1,4 +1,4 @@
-// Why a call refuses, and where: document 01, "Answer numbers". The Rust's `ProtoError` is 2, 3 and 4 of these.
+// Why a call refuses, and where: document 01, "Answer numbers", and document 02 from 12 on. The Rust's `ProtoError` is 2, 3 and 4 of these.
 ghost use mathlib.Core.Path.{_≡_};
 ghost use lib.ListN.{getD};
 ghost use Rattle.answer.specs.Numbers.{numberOf, valuesOf};
@@ -27,6 +27,11 @@ pub enum Refusal {
     OutOfBounds { mark: usize, length: usize },
     // 11: no such parameter, or too few bytes for the number asked.
     NotFound,
+    // 17: parameters that don't reach their data's end, or one with raw length 0x8004; or a request that isn't one frame with one
+    // object.
+    UnsoundData,
+    // 18: a frame whose payload would be 32,761 plus one or more times 32,765 bytes, which the reader says isn't whole.
+    UnreadableSize,
 }
 
 // A refusal, with the place that document 01 gives it.
@@ -73,6 +78,8 @@ impl Refusal {
             } => 9,
             Refusal::OutOfBounds { mark: _, length: _ } => 10,
             Refusal::NotFound => 11,
+            Refusal::UnsoundData => 17,
+            Refusal::UnreadableSize => 18,
         }
     }
 
@@ -98,6 +105,8 @@ impl Refusal {
             Refusal::NoRoom { bytes, records: _ } => bytes,
             Refusal::OutOfBounds { mark, length: _ } => mark,
             Refusal::NotFound => 0,
+            Refusal::UnsoundData => 0,
+            Refusal::UnreadableSize => 0,
         }
     }
 
@@ -123,6 +132,8 @@ impl Refusal {
             Refusal::LengthTooShort(_) => 0,
             Refusal::LengthTooLarge(_) => 0,
             Refusal::NotFound => 0,
+            Refusal::UnsoundData => 0,
+            Refusal::UnreadableSize => 0,
         }
     }
 
@@ -151,6 +162,8 @@ impl Refusal {
             Refusal::LengthTooShort(_) => 0,
             Refusal::LengthTooLarge(_) => 0,
             Refusal::NotFound => 0,
+            Refusal::UnsoundData => 0,
+            Refusal::UnreadableSize => 0,
         }
     }
 }

@@ -10,6 +10,7 @@ use Rattle.ddm_builder.specs.declared.Added.{Added}
 use Rattle.ddm_builder.proofs.extended_length_byte_count.Reads as extended-length-byte-count
 use Rattle.ddm_builder.proofs.serialized_header_len.Reads as serialized-header-len
 use Rattle.ddm_builder.proofs.built_size.Reads as built-size
+use Rattle.ddm_builder.proofs.lay_header.Reads as lay-header
 use Rattle.ddm_builder.proofs.DdmBuilder.new.Reads as new
 use Rattle.ddm_builder.proofs.DdmBuilder.add_code_point.Reads as add-code-point
 use Rattle.ddm_builder.proofs.DdmBuilder.add_u16.Reads as add-u16
@@ -33,6 +34,10 @@ serialized-header-len-one κs n r r′ p q = p ∙ sym q
 
 pub built-size-one : (κs : Lfts 0) (n r r′ : ℕ) → built-size.Post κs (n, tt) r (n, tt) → built-size.Post κs (n, tt) r′ (n, tt) → r ≡ r′
 built-size-one κs n r r′ p q = p ∙ sym q
+
+pub lay-header-one : (κs : Lfts 1) (cp n : ℕ) (room : RefT (List ℕ)) (l l′ : List ℕ)
+    → lay-header.Post κs (cp, (n, (room, tt))) tt (cp, (n, (at-last room l, tt))) → lay-header.Post κs (cp, (n, (room, tt))) tt (cp, (n, (at-last room l′, tt))) → l ≡ l′
+lay-header-one κs cp n room l l′ p q = p ∙ sym q
 
 -- ---- the builder
 

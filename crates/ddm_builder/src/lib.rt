@@ -7,6 +7,7 @@ ghost use Rattle.answer.specs.Rooms.{capped, Lays};
 ghost use Rattle.ddm_builder.specs.Built.{lengthBytes, built, builtSize};
 ghost use Rattle.ddm_builder.specs.Builder.{fresh, Adds, parameter16, parameter32, Builds, totalLength};
 ghost use Rattle.ddm_builder.specs.Forms.{rawLength, LaysAt};
+ghost use Rattle.ddm_builder.specs.Headers.{headerOf};
 use answer::Laid;
 use answer::Refusal;
 use answer::Refused;
@@ -87,20 +88,30 @@ pub(crate) fn raw_length(width: usize, n: usize) -> u16
     (0x8004 + width) as u16
 }
 
-// Lays an object down at the room's start: header, length bytes, data; where it has room for them.
-pub(crate) fn lay_object(cp: u16, data: &[u8], room: &mut [u8])
-    ensures { λ _. ⌜ now (room .exit) ≡ laid (now (room .entry)) 0 (built cp (now («data» .entry))) ⌝ }
+// Lays the header of an object with so much data down at the room's start, length bytes and all, where it has room for it.
+pub fn lay_header(cp: u16, n: usize, room: &mut [u8])
+    ensures { λ _. ⌜ now (room .exit) ≡ laid (now (room .entry)) 0 (headerOf cp n) ⌝ }
 {
-    let n = data.len();
     let width = extended_length_byte_count(n);
-    let head = DDM_HEADER_LEN + width;
-    if room.len() < head + n {
+    if room.len() < DDM_HEADER_LEN + width {
         return;
     }
     wire::put_u16(room, raw_length(width, n));
     wire::put_u16(&mut room[2..], cp);
     lay_number(&mut room[4..], width, n);
-    ddm_length::lay(data, &mut room[head..]);
+}
+
+// Lays an object down at the room's start: header, data; where it has room for them.
+pub(crate) fn lay_object(cp: u16, data: &[u8], room: &mut [u8])
+    ensures { λ _. ⌜ now (room .exit) ≡ laid (now (room .entry)) 0 (built cp (now («data» .entry))) ⌝ }
+{
+    let n = data.len();
+    let behind = serialized_header_len(n);
+    if room.len() < behind + n {
+        return;
+    }
+    lay_header(cp, n, room);
+    ddm_length::lay(data, &mut room[behind..]);
 }
 
 // Lays an object down at the room's start: 9 where it is too short, at the place that the call gives a refusal.

@@ -28,7 +28,7 @@ pub enum Marshaled {
 }
 
 // The number that bytes spell, or that it exceeds 2^64 - 1.
-pub(crate) enum Number {
+pub enum Number {
     Is(usize),
     TooLarge,
 }

@@ -79,6 +79,32 @@ impl DdmObject {
         Some(self.param(&loan.words, &loan.room))
     }
 
+    /// The same object with new bytes in the first parameter of a code point: added. In this order: `UnsoundData` where the
+    /// parameters don't fill its data or one has raw length 0x8004, `NotFound`. A place is a byte of the data.
+    ///
+    /// ```
+    /// use lattrugone::ddm::DdmObject;
+    /// use lattrugone::ProtoError;
+    ///
+    /// # fn main() -> lattrugone::Result<()> {
+    /// let object = DdmObject { code_point: 0x2412, data: vec![0, 5, 0x14, 0x7A, 0xF0, 0, 4, 0x21, 0x10] };
+    /// let changed = object.with_param(0x147A, &[0xF0, 0xF4])?;
+    /// assert_eq!(changed.data, [0, 6, 0x14, 0x7A, 0xF0, 0xF4, 0, 4, 0x21, 0x10]);
+    /// assert_eq!(object.with_param(0x2114, &[]), Err(ProtoError::NotFound));
+    /// # Ok(())
+    /// # }
+    /// ```
+    pub fn with_param(&self, code_point: u16, new: &[u8]) -> Result<Self> {
+        let loan = Loan::of(|loan| {
+            let (room, words) = (&mut loan.room, &mut loan.words);
+            port::change_param(&self.data, code_point, new, room, words)
+        })?;
+        Ok(Self {
+            code_point: self.code_point,
+            data: loan.room,
+        })
+    }
+
     /// How many bytes the builder makes of it.
     pub fn total_length(&self) -> usize {
         port::object_total_length(self.data.len())

@@ -1,0 +1,14 @@
+pub mod SoundData
+pub mod ChangedList
+pub mod Call
+pub mod Altered
+pub mod AlteredInSteps
+pub mod Finding
+pub mod Rebuilt
+pub mod RequestCall
+pub mod HeadKept
+pub mod ReframedReads
+pub mod Again
+pub mod Examples
+pub mod RequestExamples
+pub mod Instances

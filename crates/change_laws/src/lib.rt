@@ -1,0 +1,1 @@
+// The laws of changing one parameter, document 02, W-204 (specs/).

@@ -1,0 +1,61 @@
+-- `ddm_change::request::alone_head` meets its contract: each return is one of the laws of a whole frame that stands alone.
+use mathlib.Core.Path.{_≡_, sym, _∙_}
+use borrow.Author.Needs.{needs}
+use Rattle.dss_head.specs.Heads.{headAt}
+use Rattle.dss_head.specs.declared.HeadFound.the-variants.{Head}
+use Rattle.ddm_change.specs.AloneLaws.{alone-refused, alone-length, alone-stands}
+use Rattle.ddm_change.proofs.request.alone_head.Statement.{statement}
+use Rattle.ddm_change.proofs.request.alone_head.Tie as tie
+
+head-at-requires : tie.Need-head-at-requires
+head-at-requires c κs = search needs
+
+enum-known-refused : tie.Need-enum-known-refused
+enum-known-refused c = search needs
+
+returns : tie.Need-returns
+returns c =
+    let f = c .before .before .before in
+    let start = f .before .before in
+    let a = start .args in
+    sym (alone-refused (a .frame .now) (a .end) (a .segments) (a .payload-len) (start .pre) _ (sym (c .before .refused .given .1) ∙ f .head-at .ensures))
+
+enum-told : tie.Need-enum-told
+enum-told c = search needs
+
+u16-at-requires : tie.Need-u16-at-requires
+u16-at-requires c κs = search needs
+
+cast-if1 : tie.Need-cast-if1
+cast-if1 c = search needs
+
+-- the head that was found
+found : (c : tie.After-u16-at) → (let a = c .before .before .before .before .before .args in Head (c .before .enum-told .given .0 .0) ≡ headAt (a .frame .now) 0)
+found c = sym (c .before .enum-told .given .1) ∙ c .before .before .before .head-at .ensures
+
+returns-2 : tie.Need-returns-2
+returns-2 c =
+    let u = c .before in
+    let start = u .before .before .before .before .before in
+    let a = start .args in
+    sym (alone-length (a .frame .now) (a .end) (a .segments) (a .payload-len) (start .pre) _ (found u) (u .u16-at .result) (u .u16-at .ensures) (c .if1 .taken))
+
+returns-3 : tie.Need-returns-3
+returns-3 c =
+    let u = c .before in
+    let start = u .before .before .before .before .before in
+    let a = start .args in
+    sym (alone-stands (a .frame .now) (a .end) (a .segments) (a .payload-len) (start .pre) _ (found u) (u .u16-at .result) (u .u16-at .ensures) (c .if1 .left))
+
+pub alone-head-spec : {M : Type 1} → statement M
+alone-head-spec =
+    tie.close
+    (tie.spec
+    head-at-requires
+    enum-known-refused
+    returns
+    enum-told
+    u16-at-requires
+    cast-if1
+    returns-2
+    returns-3)
