@@ -1,17 +1,11 @@
 -- The whole way of "We build a request once a site and alter one value for each extension block". The request is an
 -- object in a frame, so its data are changed, built and written: three calls, by the contracts that they have.
 use Prim.Native.Nat.{ℕ, _+_, _^_, _≤_, _<_}
-use native.Mathlib.Omega.{arith}
 use mathlib.Core.Path.{_≡_, sym, _∙_, ap}
 use mathlib.Core.Bool.{Bool}
 use mathlib.Core.List.{List, _∷_, _++_}
-use borrow.Author.Tests.{leb-true}
-use lib.Dec.{leb}
 use lib.ListN.{length, take, drop}
 use lib.Seq.{take-at}
-use Rattle.wire.specs.Bytes.{splice}
-use Rattle.wire.specs.Laws.{picked}
-use Rattle.wire.specs.Splice.{laid-fits}
 use Rattle.answer.specs.Rooms.{Lays}
 use Rattle.answer.specs.declared.Laid.the-variants.{Bytes}
 use Rattle.dss_head.specs.declared.DssType.{DssType}
@@ -19,18 +13,15 @@ use Rattle.dss_frame.specs.Written.{Sent, written}
 use Rattle.ddm_builder.specs.Built.{built}
 use Rattle.ddm_laws.specs.Lists.{joined, Fit}
 use Rattle.ddm_change.specs.Change.{Changes}
+use Rattle.change_laws.specs.Lays.{lays-done}
 use Rattle.change_laws.specs.Call.{Lay, done-laid}
 use Rattle.change_laws.specs.Altered.{Without, alters}
 
 -- what was laid down are the room's first bytes
 laid-first : (bytes room : List ℕ) (n : ℕ) (after : List ℕ) → Lays bytes room (Bytes n) after → take n after ≡ bytes
-unfolding splice
 laid-first bytes room n after p =
-    picked (leb (length bytes) (length room)) (sym (p .answers))
-    (λ t k. let m : length bytes ≡ n = cc in
-    let h : length bytes ≤ length room = leb-true (length bytes) (length room) t in
-    ap (take n) (p .room-is ∙ laid-fits room 0 bytes (omega arith)) ∙ take-at bytes (drop (0 + length bytes) room) n m)
-    (λ t k. absurd (let z : _≡_ {A = ℕ} 0 1 = cc in omega arith))
+    let l = lays-done bytes room after n p in
+    ap (take n) (l .room-is) ∙ take-at bytes (drop n room) n (sym (l .many))
 
 abbrev pub frame : DssType → Bool → Bool → ℕ → List ℕ → Sent
 frame t chained same correlation payload = record { type = t; chained = chained; same = same; correlation = correlation; payload = payload }

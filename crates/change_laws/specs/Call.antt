@@ -1,20 +1,17 @@
 -- What an answer of the call says, and what the room then holds.
-use Prim.Native.Nat.{ℕ, _+_, _^_, _≤_, _<_}
-use native.Mathlib.Omega.{arith}
+use Prim.Native.Nat.{ℕ, _^_, _≤_, _<_}
 use mathlib.Core.Path.{_≡_, refl, sym, _∙_, ap}
 use mathlib.Core.List.{List, _++_}
-use borrow.Author.Tests.{leb-true, leb-false, lt-leb}
-use lib.Dec.{leb}
+use borrow.Author.Tests.{lt-leb}
 use lib.ListN.{length, drop}
-use Rattle.wire.specs.Bytes.{splice}
-use Rattle.wire.specs.Laws.{by, pick-yes, pick-no, picked}
-use Rattle.wire.specs.Splice.{laid-fits, laid-kept}
+use Rattle.wire.specs.Laws.{pick-no}
 use Rattle.answer.specs.declared.Refusal.the-variants.{NoRoom}
 use Rattle.answer.specs.declared.Refused.{Refused}
 use Rattle.answer.specs.declared.Laid.{Laid}
 use Rattle.answer.specs.declared.Laid.the-variants.{Bytes, Refused as NotLaid}
 use Rattle.dss_writer.specs.Laying.{capped-same}
 use Rattle.ddm_change.specs.Change.{Change, changed, faulty, lacking, changeOf, answerOf, roomOf, Changes}
+use Rattle.change_laws.specs.Lays.{never, lays-done, lays-kept}
 use Rattle.change_laws.specs.ChangedList.{ChangedAs, changed-as}
 
 -- two results that the contract allows are one
@@ -30,29 +27,14 @@ pub record Lay (d : List ℕ) (cp : ℕ) (new room : List ℕ) (n : ℕ) (after 
   pub fits : n ≤ length room
   pub room-is : after ≡ bytes ++ drop n room
 
-never : {P : Type 0} {n : ℕ} {x : Refused} → Bytes n ≡ NotLaid x → P
-never e = absurd (let z : _≡_ {A = ℕ} 0 1 = cc in omega arith)
-
 module _ (d : List ℕ) (cp : ℕ) (new room : List ℕ) (after : List ℕ) where
   pub done-laid : (n : ℕ) → Changes d cp new room (Bytes n) after → Lay d cp new room n after
-  unfolding splice
   done-laid n p = go (changeOf d cp new) refl (p .answers) (p .room-is)
     where
       go : (c : Change) → changeOf d cp new ≡ c → Bytes n ≡ answerOf c (length room) → after ≡ roomOf c room → Lay d cp new room n after
       go (changed b) q e a =
-          picked (leb (length b) (length room)) (sym e)
-          (λ t k. let h : length b ≤ length room = leb-true (length b) (length room) t in
-          let m : n ≡ length b = cc in
-          let z : 0 + length b ≡ n = omega arith in
-          record {
-            bytes = b;
-            is = q;
-            like = changed-as d cp new b q;
-            many = m;
-            fits = omega arith;
-            room-is = a ∙ laid-fits room 0 b (omega arith) ∙ ap (λ (j : ℕ). b ++ drop j room) z;
-          })
-          (λ t k. never (sym k))
+          let l = lays-done b room after n (record { answers = e; room-is = a }) in
+          record { bytes = b; is = q; like = changed-as d cp new b q; many = l .many; fits = l .fits; room-is = l .room-is }
       go (faulty place) q e a = never e
       go lacking q e a = never e
 
@@ -61,9 +43,7 @@ module _ (d : List ℕ) (cp : ℕ) (new room : List ℕ) (after : List ℕ) wher
   refused-kept x p = go (changeOf d cp new) (p .answers) (p .room-is)
     where
       go : (c : Change) → NotLaid x ≡ answerOf c (length room) → after ≡ roomOf c room → after ≡ room
-      go (changed b) e a =
-          by (leb (length b) (length room)) (λ t. never (sym (e ∙ pick-yes _ _ t)))
-          (λ t. a ∙ laid-kept room 0 b (omega (arith, leb-false (length b) (length room) t)))
+      go (changed b) e a = lays-kept b room after x (record { answers = e; room-is = a })
       go (faulty place) e a = a
       go lacking e a = a
 

@@ -1,5 +1,6 @@
 pub mod SoundData
 pub mod ChangedList
+pub mod Lays
 pub mod Call
 pub mod Altered
 pub mod AlteredInSteps

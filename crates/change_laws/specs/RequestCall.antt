@@ -1,16 +1,14 @@
 -- What an answer of `change_request` says, and what the room then holds.
-use Prim.Native.Nat.{ℕ, _+_, _≤_}
-use native.Mathlib.Omega.{arith}
-use mathlib.Core.Path.{_≡_, refl, sym, _∙_, ap}
+use Prim.Native.Nat.{ℕ, _≤_}
+use mathlib.Core.Path.{_≡_, refl}
 use mathlib.Core.List.{List, [], _∷_, _++_}
-use borrow.Author.Tests.{leb-true, leb-false}
-use lib.Dec.{leb}
-use lib.ListN.{length, drop}
-use Rattle.wire.specs.Bytes.{splice}
-use Rattle.wire.specs.Laws.{by, pick-yes, picked}
-use Rattle.wire.specs.Splice.{laid-fits, laid-kept}
+use lib.ListN.{length, drop, replicate}
+use Rattle.wire.specs.Bytes.{laid}
+use Rattle.answer.specs.declared.Refusal.the-variants.{Incomplete}
+use Rattle.ddm_object.specs.Objects.{parameters}
 use Rattle.answer.specs.declared.Refused.{Refused}
 use Rattle.answer.specs.declared.Laid.the-variants.{Bytes, Refused as NotLaid}
+use Rattle.change_laws.specs.Lays.{never, lays-done, lays-kept}
 use Rattle.ddm_change.specs.Request.{Changed, laysFrame, refusesIt, requestOf, answerOf, roomOf, ChangesRequest}
 
 -- the answer is 0 with n bytes: the frame after is the room's first bytes, and behind them it is as it was
@@ -21,22 +19,14 @@ pub record LaysFrame (s : List ℕ) (cp : ℕ) (new room : List ℕ) (n : ℕ) (
   pub fits : n ≤ length room
   pub room-is : after ≡ bytes ++ drop n room
 
-never : {P : Type 0} {n : ℕ} {x : Refused} → Bytes n ≡ NotLaid x → P
-never e = absurd (let z : _≡_ {A = ℕ} 0 1 = cc in omega arith)
-
 module _ (s : List ℕ) (cp : ℕ) (new room : List ℕ) (after : List ℕ) where
   pub done-frame : (n : ℕ) → ChangesRequest s cp new room (Bytes n) after → LaysFrame s cp new room n after
-  unfolding splice
   done-frame n p = go (requestOf s cp new) refl (p .answers) (p .room-is)
     where
       go : (c : Changed) → requestOf s cp new ≡ c → Bytes n ≡ answerOf c (length room) → after ≡ roomOf c room → LaysFrame s cp new room n after
       go (laysFrame b) q e a =
-          picked (leb (length b) (length room)) (sym e)
-          (λ t k. let h : length b ≤ length room = leb-true (length b) (length room) t in
-          let m : n ≡ length b = cc in
-          let z : 0 + length b ≡ n = omega arith in
-          record { bytes = b; is = q; many = m; fits = omega arith; room-is = a ∙ laid-fits room 0 b (omega arith) ∙ ap (λ (j : ℕ). b ++ drop j room) z })
-          (λ t k. never (sym k))
+          let l = lays-done b room after n (record { answers = e; room-is = a }) in
+          record { bytes = b; is = q; many = l .many; fits = l .fits; room-is = l .room-is }
       go (refusesIt r) q e a = never e
 
   -- every other answer leaves the room as it was
@@ -44,7 +34,15 @@ module _ (s : List ℕ) (cp : ℕ) (new room : List ℕ) (after : List ℕ) wher
   refused-keeps x p = go (requestOf s cp new) (p .answers) (p .room-is)
     where
       go : (c : Changed) → NotLaid x ≡ answerOf c (length room) → after ≡ roomOf c room → after ≡ room
-      go (laysFrame b) e a =
-          by (leb (length b) (length room)) (λ t. never (sym (e ∙ pick-yes _ _ t)))
-          (λ t. a ∙ laid-kept room 0 b (omega (arith, leb-false (length b) (length room) t)))
+      go (laysFrame b) e a = lays-kept b room after x (record { answers = e; room-is = a })
       go (refusesIt r) e a = a
+
+-- both are met: a value emptied, and a frame that isn't there
+done-met : LaysFrame (0 ∷ 15 ∷ 0xD0 ∷ 1 ∷ 0 ∷ 3 ∷ 0 ∷ 9 ∷ 0x20 ∷ 0x0D ∷ 0 ∷ 5 ∷ 0x21 ∷ 0x10 ∷ 7 ∷ []) 0x2110 [] (replicate 15 5) 14
+    (0 ∷ 14 ∷ 0xD0 ∷ 1 ∷ 0 ∷ 3 ∷ 0 ∷ 8 ∷ 0x20 ∷ 0x0D ∷ 0 ∷ 4 ∷ 0x21 ∷ 0x10 ∷ 5 ∷ [])
+unfolding requestOf parameters laid
+done-met = done-frame _ 0x2110 [] (replicate 15 5) _ 14 (record { answers = refl; room-is = refl })
+
+kept-met : _≡_ {A = List ℕ} (8 ∷ []) (8 ∷ [])
+unfolding requestOf parameters laid
+kept-met = refused-keeps [] 0x2110 [] (8 ∷ []) (8 ∷ []) (record { why = Incomplete; place = 0 }) (record { answers = refl; room-is = refl })
