@@ -3,6 +3,8 @@
 // which answers differ, the first few of them, and last how many there are and how many differ.
 mod turn; // turn.rt: one answer
 
+ghost use mathlib.Core.Path.{_≡_};
+ghost use lib.ListN.{length};
 use libc::STDOUT_FILENO;
 use replay_list::number::number_at;
 use turn::replayed;
@@ -10,15 +12,20 @@ use turn::replayed;
 // As many answers that differ are named.
 const NAMED: u64 = 10;
 
-// The list is shorter than this, and so are inputs, rooms and rows.
-const LIST: usize = 655360;
-
+// Inputs, rooms and rows are shorter than these.
 const BYTES: usize = 147456;
 
 const ROW: usize = 512;
 
 // So many words are looked at.
 const WORDS: usize = 12;
+
+// More than the list has. Of what it holds only the length is told, so that no proof goes through it.
+fn list_bytes() -> [u8; 655360]
+    ensures { λ r. ⌜ 655360 ≡ length r ⌝ }
+{
+    [0; 655360]
+}
 
 // How many answers there are, how many differ, and whether the list ends behind them.
 struct Tally {
@@ -101,7 +108,7 @@ fn main() {
         os::fail(path);
         return;
     }
-    let mut list = [0u8; LIST];
+    let mut list = list_bytes();
     let n = io::read_full(file, &mut list);
     libc::close(file);
     replay_whole(&list[..n]);
