@@ -20,11 +20,13 @@
  * Where `words` has fewer than eight, it stays as it was and only the number is known; where it has more, the others stay.
  *
  * REFUSALS. A refusal's place is the first byte of the head, object or parameter that is refused, or for UNSOUND of what is
- * left over; for NOT_WHOLE, NO_ROOM, OUT_OF_BOUNDS, NONE and UNREADABLE it is the position or fill mark as given, 0 where the
- * call has neither. A refusal leaves every lent room, work area and row as it was. With DONE, bytes and words outside the
- * result stay as they were. NO_ROOM is given only where nothing else refuses, with what would have been enough: lend that much,
- * call again, and it is done. The need is counted from the fill mark where a function has one (write_.., builder_add_..): lend
- * fill mark and need. So a call with nothing lent, and fill mark 0, asks for the need.
+ * left over, or for NEVER_WHOLE of the continuation's length; for NOT_WHOLE, NO_ROOM, OUT_OF_BOUNDS, NONE and UNREADABLE it is
+ * the position or fill mark as given, 0 where the call has neither. A refusal leaves a reader's position at its place for
+ * BAD_MAGIC, BAD_TYPE and LENGTH_TOO_SHORT, and as given for NOT_WHOLE, NEVER_WHOLE, NO_ROOM and OUT_OF_BOUNDS. It leaves every
+ * lent room, work area and row as it was. With DONE, bytes and words outside the result stay as they were. NO_ROOM is given only
+ * where nothing else refuses, with what would have been enough: lend that much, call again, and it is done. The need is counted
+ * from the fill mark where a function has one (write_.., builder_add_..): lend fill mark and need. So a call with nothing lent,
+ * and fill mark 0, asks for the need.
  *
  * ROWS. A list goes into a row of uint64_t, eight words a record: row_len / 8 records have room, words beyond stay.
  *
@@ -62,6 +64,8 @@ enum lattrugone_answer {
     LATTRUGONE_NO_ROOM = 9,              /* no room [bytes needed from the fill mark on, records needed; 2^64 - 1 where more] */
     LATTRUGONE_OUT_OF_BOUNDS = 10,       /* position or fill mark beyond its buffer [it, the buffer's length] */
     LATTRUGONE_NONE = 11,                /* no such parameter, or too few bytes for the number asked */
+    LATTRUGONE_NEVER_WHOLE = 16,         /* a continuation length of 0 or 1 stands at words[PLACE]: no further bytes can mend it,
+                                          * give the connection up */
     LATTRUGONE_UNSOUND = 17,             /* parameters that don't fill their data, raw length 0x8004, or bytes left over */
     LATTRUGONE_UNREADABLE = 18           /* the frame's last chunk would be full: next_frame wouldn't find it whole */
 };
@@ -131,7 +135,7 @@ enum lattrugone_format {
 
 /* What decide_continuation says of a continuation's length. */
 enum lattrugone_continuation {
-    LATTRUGONE_DEAD = 0,                 /* 0 and 1: the frame is never whole */
+    LATTRUGONE_DEAD = 0,                 /* 0 and 1: the frame is NEVER_WHOLE */
     LATTRUGONE_LAST = 1,                 /* 2 to 7FFE, 8000 to FFFE: the last one */
     LATTRUGONE_FULL = 2                  /* 7FFF, FFFF: 32,767 bytes, and another must follow */
 };
@@ -226,13 +230,16 @@ uint8_t lattrugone_build_dss_object(uint16_t correlation_id, uint8_t chained, co
 /* How many bytes of the run aren't read yet: run_len - at, 0 where at is beyond the run. */
 size_t lattrugone_remaining(const uint8_t *run, size_t run_len, size_t at);
 
-/* 1 where the frame at the position is whole, else 0. It says nothing of its magic and its type. */
+/* 1 where the frame at the position is whole, else 0: yet or ever, which frame_end tells apart. It says nothing of its magic and
+ * its type. */
 uint8_t lattrugone_has_frame(const uint8_t *run, size_t run_len, size_t at);
 
 /* The end of the frame at a position, by its lengths alone: neither magic nor type is looked at, nothing is absorbed, and a
  * length of 0 to 5 is taken as it is.
- * DONE: words[RESULT] the byte after its last, counted from the run's start. In this order, each at the position:
- * OUT_OF_BOUNDS, NOT_WHOLE. first_frame_end is the same at 0. */
+ * DONE: words[RESULT] the byte after its last, counted from the run's start.
+ * In this order: OUT_OF_BOUNDS at the position; NEVER_WHOLE at a continuation length of 0 or 1 where one is reached, all bytes
+ * before it and both of its own being there, else NOT_WHOLE at the position. A place is counted from the run's start, too.
+ * first_frame_end is the same at 0. */
 uint8_t lattrugone_frame_end(const uint8_t *run, size_t run_len, size_t at, uint64_t *words, size_t words_len);
 uint8_t lattrugone_first_frame_end(const uint8_t *run, size_t run_len, uint64_t *words, size_t words_len);
 
@@ -240,21 +247,22 @@ uint8_t lattrugone_first_frame_end(const uint8_t *run, size_t run_len, uint64_t 
  * carry on are absorbed.
  * DONE: words[FRAME_BEHIND] the position to read on from, words[FRAME_LENGTH], words[FRAME_FORMAT], words[FRAME_CORRELATION],
  * words[FRAME_PAYLOAD_LEN] how many bytes of the room are filled, words[FRAME_SEGMENTS].
- * In this order: OUT_OF_BOUNDS, NOT_WHOLE, BAD_MAGIC, BAD_TYPE, LENGTH_TOO_SHORT, NO_ROOM. words[PLACE] is the position that a
- * refusal leaves: the head that is refused, which may be one behind the frame, that is then lost (BAD_MAGIC, BAD_TYPE,
- * LENGTH_TOO_SHORT), else `at`. Salvage from `at` then, and not from that place: so the frame comes out.
+ * In this order: OUT_OF_BOUNDS at `at`; NOT_WHOLE or NEVER_WHOLE as in frame_end; BAD_MAGIC, BAD_TYPE, LENGTH_TOO_SHORT at the
+ * head that is refused, which may be one behind the frame, that is then lost; NO_ROOM at `at`. With BAD_MAGIC, BAD_TYPE and
+ * LENGTH_TOO_SHORT the position then stands at words[PLACE]: salvage from `at`, and not from that place, so the frame comes out.
+ * With the others it stays `at`, with NEVER_WHOLE too, whose place is inside the frame: read on from neither.
  * A payload is never longer than run_len - at - 6, so a room as long as the run is always enough. Where fewer than six bytes or
- * only a part of a segment stand behind the frame, segments yet to arrive may still have belonged to it; once a whole frame
- * stands behind it (has_frame at words[FRAME_BEHIND]), nothing that arrives changes it.
+ * only a part of a segment stand behind the frame, segments yet to arrive may still have belonged to it; once a frame stands
+ * behind it that is whole or is never whole (frame_end at words[FRAME_BEHIND] isn't NOT_WHOLE), nothing that arrives changes it.
  * A frame whose last chunk is full (0x7FFF: a payload of 32,761 and one or more times 32,765 bytes) is taken for one that goes
  * on: alone it is NOT_WHOLE, and with a frame behind it THAT FRAME IS TAKEN FOR ITS NEXT CHUNK and is lost, with no refusal. */
 uint8_t lattrugone_next_frame(const uint8_t *run, size_t run_len, size_t at, uint8_t *room, size_t room_len, uint64_t *words,
                               size_t words_len);
 
-/* Reads frames from a position on until one isn't whole: payloads end to end from the room's first byte, in the row a record
- * of each: 0, words[FRAME_PAYLOAD_AT] and the others as next_frame has them, 0.
+/* Reads frames from a position on until one isn't whole, yet or ever: payloads end to end from the room's first byte, in the row
+ * a record of each: 0, words[FRAME_PAYLOAD_AT] and the others as next_frame has them, 0.
  * DONE, also where there is none: words[LIST_BEHIND] the position to read on from, words[LIST_COUNT] how many records,
- * words[LIST_BYTES] how many bytes of the room.
+ * words[LIST_BYTES] how many bytes of the room. Whether to wait for more bytes there, frame_end at words[LIST_BEHIND] says.
  * In this order: OUT_OF_BOUNDS at `at`; BAD_MAGIC, BAD_TYPE, LENGTH_TOO_SHORT of any frame at the head that is refused, where
  * the position then stands; NO_ROOM at `at`. A room as long as the run and a row of run_len / 6 records are always enough. */
 uint8_t lattrugone_read_all_frames(const uint8_t *run, size_t run_len, size_t at, uint8_t *room, size_t room_len, uint64_t *row,
@@ -266,8 +274,9 @@ uint8_t lattrugone_read_all_frames(const uint8_t *run, size_t run_len, size_t at
  * An entry is a record in the row. A frame's is as read_all_frames has it: the number 0, words[FRAME_PAYLOAD_AT] and so on. A
  * refusal's is its number (BAD_MAGIC, BAD_TYPE, LENGTH_TOO_SHORT), its place, its value.
  * DONE: words[LIST_COUNT] how many entries, words[LIST_BYTES] how many bytes of the room, words[LIST_TAIL] where the walk ended:
- * from there to run_len nothing was read. The one refusal is NO_ROOM, at 0. A room as long as the run and a row of run_len / 6
- * records are always enough.
+ * from there to run_len nothing was read. A frame that isn't whole, yet or ever, ends the walk and is no entry: frame_end at the
+ * tail says which. The one refusal is NO_ROOM, at 0. A room as long as the run and a row of run_len / 6 records are always
+ * enough.
  * The lengths lead from frame to frame: where one is damaged, or bytes are missing or too many, what stands behind isn't found.
  * A full last chunk swallows the frame behind it, as in next_frame. */
 uint8_t lattrugone_salvage(const uint8_t *run, size_t run_len, uint8_t *room, size_t room_len, uint64_t *row, size_t row_len,
@@ -389,11 +398,11 @@ uint8_t lattrugone_change_param_len(const uint8_t *data, size_t data_len, uint16
  * the altered one comes out. A frame of any type will do. Its format byte, all flags and 0x80 included, and its correlation are
  * copied as they are; the object gets the header that the builder writes and the frame the segments that the writer does.
  * DONE: words[RESULT] how many bytes.
- * In this order: NOT_WHOLE, BAD_MAGIC, BAD_TYPE, LENGTH_TOO_SHORT at 0, of the one frame, nothing being absorbed; UNSOUND where
- * bytes are left over behind its one object or behind the frame, at the first of them; the object's TOO_FEW_BYTES,
- * HEADER_TOO_SHORT, LENGTH_TOO_LARGE and INLINE_TOO_SHORT as `object` has them, at 6; UNSOUND at 6 where the object is of raw
- * length 0x8004; UNSOUND as in change_param; NONE at 0; UNREADABLE at 0, where the payload would be 32,761 and one or more times
- * 32,765 bytes (see next_frame); NO_ROOM at 0.
+ * In this order: NOT_WHOLE at 0 or NEVER_WHOLE at the continuation's length, as in frame_end; BAD_MAGIC, BAD_TYPE,
+ * LENGTH_TOO_SHORT at 0, of the one frame, nothing being absorbed; UNSOUND where bytes are left over behind its one object or
+ * behind the frame, at the first of them; the object's TOO_FEW_BYTES, HEADER_TOO_SHORT, LENGTH_TOO_LARGE and INLINE_TOO_SHORT as
+ * `object` has them, at 6; UNSOUND at 6 where the object is of raw length 0x8004; UNSOUND as in change_param; NONE at 0;
+ * UNREADABLE at 0, where the payload would be 32,761 and one or more times 32,765 bytes (see next_frame); NO_ROOM at 0.
  * A place is a byte of the frame that is given, the heads of its continuations counted in. */
 uint8_t lattrugone_change_request(const uint8_t *frame, size_t frame_len, uint16_t code_point, const uint8_t *new_bytes,
                                   size_t new_len, uint8_t *room, size_t room_len, uint64_t *words, size_t words_len);

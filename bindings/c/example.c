@@ -44,9 +44,9 @@ static void print_hex(const uint8_t *bytes, size_t len)
     printf("\n");
 }
 
-static void take_refusal(uint64_t first, const uint64_t *refusal)
+static void take_refusal(uint64_t place, const uint64_t *refusal)
 {
-    printf("refused %u at %zu value %zu\n", (unsigned)refusal[LATTRUGONE_NUMBER], (size_t)first, (size_t)refusal[2]);
+    printf("refused %u at %zu value %zu\n", (unsigned)refusal[LATTRUGONE_NUMBER], (size_t)place, (size_t)refusal[2]);
 }
 
 /* A number in an object's data, by its code point. It is a parameter of a few bytes, so no work area is lent; a longer one of

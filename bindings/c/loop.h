@@ -7,9 +7,9 @@
 
 /* As recv: how many bytes came, 0 where the sender has closed, below 0 where it failed. */
 static ssize_t receive(int socket, uint8_t *to, size_t most);
-/* A frame and its payload, a refusal; with the place of its first byte, counted over the connection. */
+/* A frame and its payload, with the place of its first byte; a refusal, with its place. Both are counted over the connection. */
 static void take_frame(uint64_t first, const uint64_t *frame, const uint8_t *payload);
-static void take_refusal(uint64_t first, const uint64_t *refusal);
+static void take_refusal(uint64_t place, const uint64_t *refusal);
 /* As long as an area or a room may become. */
 #define MOST ((size_t)16 << 20)
 
@@ -54,8 +54,8 @@ static const char *receive_more(struct connection *c)
 }
 
 /* The head at `place` is refused. Salvage starts where the refused call did, for a frame that stands before that head is lost to
- * the call. It ends where the refused frame does, or at its head where it isn't whole yet, so that what stands behind is read like
- * all else: two entries are the most. Behind a length below 6 nothing can be found, whatever comes in. */
+ * the call. It ends where the refused frame does, or at its head where it isn't whole, so that what stands behind is read like all
+ * else: two entries are the most. Behind a length below 6 nothing can be found, whatever comes in. */
 static const char *salvage(struct connection *c, size_t place)
 {
     uint64_t words[LATTRUGONE_WORDS], row[2 * LATTRUGONE_WORDS];
@@ -87,9 +87,10 @@ static const char *read_connection(struct connection *c)
     while (ended == NULL) {
         uint8_t answer = lattrugone_next_frame(c->area, c->filled, c->at, c->room, c->room_len, words, LATTRUGONE_WORDS);
 
-        /* A chained frame may go on in segments that are still to come: it waits until a whole frame stands behind it. */
+        /* A chained frame may go on in segments that are still to come: it waits while the frame behind it isn't whole yet. One
+         * that is never whole isn't waited for. */
         if (answer == LATTRUGONE_DONE && c->open && (words[LATTRUGONE_FRAME_FORMAT] & LATTRUGONE_CHAINED) &&
-            !lattrugone_has_frame(c->area, c->filled, words[LATTRUGONE_FRAME_BEHIND]))
+            lattrugone_frame_end(c->area, c->filled, words[LATTRUGONE_FRAME_BEHIND], NULL, 0) == LATTRUGONE_NOT_WHOLE)
             answer = LATTRUGONE_NOT_WHOLE;
 
         switch (answer) {
@@ -102,6 +103,10 @@ static const char *read_connection(struct connection *c)
                 ended = receive_more(c);
             else
                 ended = c->at == c->filled ? "closed" : "closed within a frame";
+            break;
+        case LATTRUGONE_NEVER_WHOLE: /* whatever comes in: the position stays, and so does the answer */
+            take_refusal(c->gone + words[LATTRUGONE_PLACE], words);
+            ended = "a continuation length of 0 or 1";
             break;
         case LATTRUGONE_NO_ROOM:
             ended = lend(&c->room, &c->room_len, words[LATTRUGONE_NEEDED_BYTES]);

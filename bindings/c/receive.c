@@ -1,7 +1,8 @@
 /*
- * receive FILE PIECE: sends a file's bytes over a socket pair, PIECE at a time, and receives them by loop.h. Where PIECE is 0 they
- * are read at once, to compare. Prints a line for each frame and each refusal, as framelist and salvagelist do but with the FNV-1a
- * sum of the payload, then where reading ended and how many bytes are left, and how the connection ended.
+ * receive FILE PIECE [open]: sends a file's bytes over a socket pair, PIECE at a time, and receives them by loop.h. Where PIECE is
+ * 0 they are read at once, to compare. The sender closes behind the last byte, or with `open` stays silent there: then receiving
+ * more, which would never end, fails. Prints a line for each frame and each refusal, as framelist and salvagelist do but with the
+ * FNV-1a sum of the payload, then where reading ended and how many bytes are left, and how the connection ended.
  */
 #define _POSIX_C_SOURCE 200809L
 #include "loop.h"
@@ -10,11 +11,11 @@
 #include <sys/socket.h>
 #include <unistd.h>
 
-/* What is sent, how far, and the end of the pair that it goes into. */
+/* What is sent, how far, the end of the pair that it goes into, and whether that stays open. */
 static struct {
     uint8_t *bytes;
     size_t len, sent, piece;
-    int end;
+    int end, open;
 } sender;
 
 /* The sender's next piece goes out first, so that each call finds one. */
@@ -22,10 +23,12 @@ static ssize_t receive(int socket, uint8_t *to, size_t most)
 {
     size_t left = sender.len - sender.sent, piece = left < sender.piece ? left : sender.piece;
 
+    if (left == 0 && sender.open)
+        return -1;
     if (piece > 0 && write(sender.end, sender.bytes + sender.sent, piece) != (ssize_t)piece)
         return -1;
     sender.sent += piece;
-    if (sender.sent == sender.len)
+    if (sender.sent == sender.len && !sender.open)
         shutdown(sender.end, SHUT_WR);
     return recv(socket, to, most, 0);
 }
@@ -44,9 +47,9 @@ static void take_frame(uint64_t first, const uint64_t *frame, const uint8_t *pay
            (size_t)frame[LATTRUGONE_FRAME_SEGMENTS], (size_t)frame[LATTRUGONE_FRAME_PAYLOAD_LEN], (unsigned long long)sum);
 }
 
-static void take_refusal(uint64_t first, const uint64_t *refusal)
+static void take_refusal(uint64_t place, const uint64_t *refusal)
 {
-    printf("refused %u at %zu value %u\n", (unsigned)refusal[LATTRUGONE_NUMBER], (size_t)first, (unsigned)refusal[2]);
+    printf("refused %u at %zu value %u\n", (unsigned)refusal[LATTRUGONE_NUMBER], (size_t)place, (unsigned)refusal[2]);
 }
 
 /* All bytes at once: next_frame over the whole run, until it gives no frame. */
@@ -79,13 +82,14 @@ int main(int argc, char **argv)
     const char *ended;
     int pair[2];
 
-    if (argc != 3 || !load(argv[1], &sender.bytes, &sender.len) || socketpair(AF_UNIX, SOCK_STREAM, 0, pair) != 0) {
-        fprintf(stderr, "receive FILE PIECE\n");
+    if (argc < 3 || !load(argv[1], &sender.bytes, &sender.len) || socketpair(AF_UNIX, SOCK_STREAM, 0, pair) != 0) {
+        fprintf(stderr, "receive FILE PIECE [open]\n");
         return 1;
     }
     c.socket = pair[0];
     sender.end = pair[1];
     sender.piece = strtoul(argv[2], NULL, 10);
+    sender.open = argc > 3;
     if (sender.piece > 0) {
         ended = read_connection(&c);
     } else {

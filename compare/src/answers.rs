@@ -100,9 +100,10 @@ pub fn answered(lent: &mut Lent<u64>, words: usize, call: impl FnOnce(&mut [u64]
 }
 
 impl Answer {
-    /// Whether it is one that the Rust never gives: 7 and 8 where it stops or loses bits, 9 of lent room, 10 of positions.
+    /// Whether it is one that the Rust never gives: 7 and 8 where it stops or loses bits, 9 of lent room, 10 of positions, 16
+    /// where it only says that a frame isn't whole.
     pub fn only_in_document(&self) -> bool {
-        (7..=10).contains(&self.number)
+        matches!(self.number, 7..=10 | 16)
     }
 
     /// Besides, these bytes laid down.

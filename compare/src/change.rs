@@ -29,6 +29,7 @@ pub fn compare(tally: &mut Tally, chance: &mut Chance, cases: u64) {
     refusals::through(tally, held, chance);
     refusals::behind(tally, held, chance);
     refusals::raws(tally, held, chance);
+    refusals::dead(tally, held, chance);
     refusals::few_words(tally, held);
     requests::edges(tally, held, chance);
     for case in 0..cases {

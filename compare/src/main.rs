@@ -5,6 +5,7 @@
 mod answers;
 mod change;
 mod ddm;
+mod dead;
 mod head;
 mod lengths;
 mod lent;
@@ -36,7 +37,7 @@ pub enum By {
     Model,
     /// The model of changing one parameter, which the Rust doesn't have either.
     Change,
-    /// Document 01 alone, as this program reads it.
+    /// Documents 01 and 02 alone, as this program reads them.
     Document,
 }
 
@@ -48,6 +49,8 @@ pub struct Tally {
     change: u64,
     document: u64,
     different: u64,
+    /// What was met of continuation lengths of 0 and 1.
+    pub dead: dead::Met,
 }
 
 /// The run stops at so many differences.
@@ -59,7 +62,7 @@ impl Tally {
         self.held(By::Rust, what, input, port, rust);
     }
 
-    /// The same of an answer in words. The Rust has no 7 to 10: those are document 01's.
+    /// The same of an answer in words. The Rust has no 7 to 10 and no 16: those are document 01's and 02's.
     pub fn answer(&mut self, what: &str, input: &[u8], port: Answer, due: Answer) {
         self.answer_by(By::Rust, what, input, port, due);
     }
@@ -125,7 +128,7 @@ impl Tally {
             "compare: {rust} held to the running Rust, {model} to the salvage reading's model"
         );
         println!(
-            "compare: besides, {} held to document 01 alone: 7 to 10, what is beyond a run or 2^64 - 1, demand 3",
+            "compare: besides, {} held to documents 01 and 02 alone: 7 to 10, 16, what is beyond a run or 2^64 - 1, demand 3",
             self.document
         );
         println!(
@@ -223,5 +226,6 @@ fn main() {
     names::compare(&mut tally, &mut chance, cases);
     change::compare(&mut tally, &mut chance, cases);
     traffic::compare(&mut tally, Path::new(CAPTURES));
+    tally.dead.all();
     tally.end();
 }

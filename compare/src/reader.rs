@@ -1,6 +1,7 @@
 //! Module 3 of document 01: the reader. The port's functions against the Rust's DssReader: head, payload, position, refusals, and
 //! the row of records.
-//! Where the Rust stops, and for the count of segments, which it doesn't have, against document 01's walk.
+//! Where the Rust stops, for the count of segments, which it doesn't have, and for which frames that aren't whole never will be,
+//! against a walk by the documents.
 mod all;
 mod case;
 pub mod long;
@@ -27,6 +28,7 @@ pub fn compare(tally: &mut Tally, chance: &mut Chance, cases: u64) {
     short::three(tally, &mut held);
     long::edges(tally, &mut held, chance);
     long::continuations(tally, &mut held, chance);
+    long::dead(tally, &mut held, chance);
     long::absorbed(tally, &mut held, chance);
     positions(tally, &mut held);
     few_words(tally, &mut held);

@@ -1,5 +1,5 @@
 //! The Rust's answers as a list, for the crate replay to make the same calls in the gate, where no Rust is: `compare --record
-//! FILE` writes it, always the same. Where the Rust has no answer, document 01's stands, as in the comparison.
+//! FILE` writes it, always the same. Where the Rust has no answer, the documents' stands, as in the comparison.
 //!
 //! The list is numbers: how many answers, then each of them. A number below 248 is one byte; any other is 247 and how many bytes
 //! it has, then these, most significant first. An answer is what is asked (the call's number, four numbers, the lengths of room,
@@ -10,6 +10,7 @@ mod input;
 pub mod structs;
 
 use crate::answers::Answer;
+use crate::reader::walk::{walk, Walked};
 use crate::{ddm, head, reader, salvage, writer, Chance, Tally};
 pub use input::counted;
 use std::collections::{BTreeMap, HashSet};
@@ -91,6 +92,17 @@ impl<'a> Asked<'a> {
         Asked { call, ..self }
     }
 
+    /// Where the frame stands that a call looks at or reads, or that it ends at, by its words where it reads all.
+    fn frame_at(&self, words: &[u64]) -> Option<u64> {
+        match self.call {
+            49 | 50 | 52 => Some(self.numbers[0]),
+            51 => Some(0),
+            64 | 160 if words.first() == Some(&0) => Some(words[1]),
+            65 | 161 if words.first() == Some(&0) => Some(words[4]),
+            _ => None,
+        }
+    }
+
     pub fn lent_words(&self) -> usize {
         self.words
     }
@@ -108,7 +120,13 @@ pub struct List {
     /// How often each call was recorded, and how often each answer number.
     calls: BTreeMap<u64, u64>,
     numbers: BTreeMap<u64, u64>,
+    /// How often each call that comes to a frame's end came to a continuation length of 0 or 1.
+    dead: BTreeMap<u64, u64>,
 }
+
+/// The calls that come to a frame's end: whether it is whole, where it is, one frame, all frames, the salvage reading, and the
+/// last two over structs.
+const ENDS: [u64; 8] = [49, 50, 51, 52, 64, 65, 160, 161];
 
 impl List {
     /// A call that returns a number and lays nothing down.
@@ -163,13 +181,19 @@ impl List {
         self.bytes.extend(bytes);
         self.count += 1;
         *self.calls.entry(asked.call).or_default() += 1;
+        let at = asked.frame_at(words).unwrap_or(u64::MAX) as usize;
+        let rest = asked.input.get(at..).unwrap_or_default();
+        if let Walked::Dead { .. } = walk(rest) {
+            *self.dead.entry(asked.call).or_default() += 1;
+        }
     }
 
-    /// Every call and every answer number occurs.
+    /// Every call and every answer number occurs, and every call that comes to a frame's end came to a length of 0 or 1.
     fn is_full(&self) -> bool {
         let mut calls = CALLS.iter().flat_map(|(from, count)| *from..from + count);
         calls.all(|call| self.calls.contains_key(&call))
-            && (0..=11).all(|number| self.numbers.contains_key(&number))
+            && (0..=11).chain([16]).all(|n| self.numbers.contains_key(&n))
+            && ENDS.iter().all(|call| self.dead.contains_key(call))
     }
 }
 
@@ -195,7 +219,7 @@ pub fn sum(units: impl ExactSizeIterator<Item = u64>) -> u64 {
     })
 }
 
-/// Records the list into a file; what the Rust says is held to document 01 on the way, as in the comparison.
+/// Records the list into a file; what the Rust says is held to the documents on the way, as in the comparison.
 pub fn record(tally: &mut Tally, path: &str) {
     let mut list = List {
         bytes: Vec::new(),
@@ -203,6 +227,7 @@ pub fn record(tally: &mut Tally, path: &str) {
         asked: HashSet::new(),
         calls: BTreeMap::new(),
         numbers: BTreeMap::new(),
+        dead: BTreeMap::new(),
     };
     let mut chance = Chance(0x9E37_79B9_7F4A_7C15);
     head::record::record(&mut list, &mut chance);
@@ -212,8 +237,9 @@ pub fn record(tally: &mut Tally, path: &str) {
     ddm::record::record(&mut list, tally, &mut chance);
     println!("answers by call: {:?}", list.calls);
     println!("answers by number: {:?}", list.numbers);
-    assert!(tally.different == 0, "document 01 and the Rust differ");
-    assert!(list.is_full(), "a call or an answer number doesn't occur");
+    println!("at a continuation length of 0 or 1: {:?}", list.dead);
+    assert!(tally.different == 0, "the documents and the Rust differ");
+    assert!(list.is_full(), "a call or an answer doesn't occur");
     let mut bytes = Vec::new();
     put(&mut bytes, list.count);
     bytes.extend(&list.bytes);

@@ -49,7 +49,9 @@ impl Held {
 
     /// The same with so many words lent.
     fn hold_in(&mut self, tally: &mut Tally, run: &[u8], words: usize) {
-        let listed = listed(&model::salvage(run));
+        let salvage = model::salvage(run);
+        tally.dead.note("salvage", run, salvage.tail);
+        let listed = listed(&salvage);
         let call = Call {
             name: "salvage",
             by: By::Model,

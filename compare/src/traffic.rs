@@ -1,8 +1,9 @@
 //! Real traffic: the captures of the repository, read by the port and held to the lists beside them, which neither the port nor
 //! its definitions made: `next_frame` and the objects of each payload to what the Rust reads (`oracle.txt`), the salvage reading
-//! to the frames by DRDA volume 3's rule alone (`splitter.txt`), but for the frames of `misread.txt`.
+//! to the frames by DRDA volume 3's rule alone (`splitter.txt`), but for the frames of `misread.txt`. And the same with each
+//! continuation length spoilt in turn, to 0 and to 1: 16, where the splitter has that length.
 use crate::port::RowLoan;
-use crate::{port, Tally};
+use crate::{port, By, Tally};
 use std::fs;
 use std::path::Path;
 
@@ -129,8 +130,8 @@ fn listed_objects(text: &str) -> String {
     text.to_string()
 }
 
-/// A run read frame by frame, up to an answer that isn't 0: the frames, their objects, the position and that answer.
-fn read(run: &[u8]) -> (Vec<(Frame, String)>, u64, u8) {
+/// A run read frame by frame, up to an answer that isn't 0: the frames, their objects; the position, that answer and its place.
+fn read(run: &[u8]) -> (Vec<(Frame, String)>, [u64; 3]) {
     let mut room = vec![0; run.len()];
     let mut words = [0; 8];
     let mut frames = Vec::new();
@@ -138,7 +139,7 @@ fn read(run: &[u8]) -> (Vec<(Frame, String)>, u64, u8) {
     loop {
         let answer = port::next_frame(run, at, &mut room, &mut words);
         if answer != 0 {
-            return (frames, at as u64, answer);
+            return (frames, [at as u64, answer as u64, words[1]]);
         }
         let payload = &room[..words[5] as usize];
         let frame = Frame {
@@ -182,11 +183,31 @@ fn salvaged(run: &[u8]) -> (Vec<Frame>, u64) {
     (records.map(frame).collect(), words[4])
 }
 
+/// A run with each continuation length of a frame spoilt: as many frames as before it, then 16 at that length, and the position
+/// is the frame's.
+fn spoilt(tally: &mut Tally, what: &str, run: &[u8], frame: &Frame, before: usize) {
+    for continuation in 1..frame.segments {
+        let place = frame.from + continuation * 32_767;
+        for raw in [0, 1] {
+            let mut run = run.to_vec();
+            run[place as usize..][..2].copy_from_slice(&[0, raw]);
+            let (frames, end) = read(&run);
+            tally.held(
+                By::Document,
+                &format!("{what}: spoilt at {place}"),
+                &[raw],
+                (frames.len(), end),
+                (before, [frame.from, 16, place]),
+            );
+        }
+    }
+}
+
 fn compare_file(tally: &mut Tally, name: &str, file: &str, folder: &Path, misread: &[Frame]) {
     let run = fs::read(folder.join(format!("{file}.bin"))).expect("a capture");
     let what = format!("{name} {file}");
     let oracle = text(&folder.join("oracle.txt"));
-    let (frames, end, answer) = read(&run);
+    let (frames, end) = read(&run);
     let listed = part(&oracle, file);
     tally.same(
         &format!("{what}: how many frames"),
@@ -199,13 +220,18 @@ fn compare_file(tally: &mut Tally, name: &str, file: &str, folder: &Path, misrea
         let expected = listed_objects(line[12]);
         tally.same(&format!("{what}: its objects"), &[], objects, &expected);
     }
-    let whole = (run.len() as u64, 1);
-    tally.same(&format!("{what}: the end"), &[], (end, answer), whole);
+    // Nothing is left: 1.
+    let len = run.len() as u64;
+    tally.same(&format!("{what}: the end"), &[], end, [len, 1, len]);
 
     let split: Vec<Frame> = part(&text(&folder.join("splitter.txt")), file)
         .iter()
         .map(|line| of_splitter(line))
         .collect();
+    for frame in &split {
+        let before = frames.iter().filter(|(f, _)| f.from < frame.from).count();
+        spoilt(tally, &what, &run, frame, before);
+    }
     let due: Vec<Frame> = as_read(split, misread)
         .into_iter()
         .map(|frame| Frame {

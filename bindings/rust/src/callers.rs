@@ -101,6 +101,7 @@
 //!         LengthTooLarge(_) => 8,
 //!         Incomplete => 1,
 //!         NotFound => 11,
+//!         DeadContinuation { .. } => 16,
 //!         UnsoundData { .. } => 17,
 //!         UnreadableSize => 18,
 //!     }

@@ -2,7 +2,7 @@ use crate::port::Words;
 use std::fmt;
 
 /// Why something wasn't read or changed: db2-proto's cases that its modules dss and ddm give, two for what stops it there, and
-/// four of what is added, [`crate::dss::change_request`] and [`crate::ddm::DdmObject::with_param`].
+/// five of what is added, [`crate::dss::change_request`] and [`crate::ddm::DdmObject::with_param`].
 #[derive(Debug, Clone, PartialEq)]
 pub enum ProtoError {
     /// A head's third byte isn't D0.
@@ -22,6 +22,12 @@ pub enum ProtoError {
     LengthTooLarge(usize),
     /// The frame that is to be changed isn't whole.
     Incomplete,
+    /// The frame that is to be changed is never whole, whatever bytes follow: a continuation length is 0 or 1. The reader gives
+    /// no error there: see [`crate::dss::DssReader::dead_at`].
+    DeadContinuation {
+        /// The first byte of that length.
+        place: usize,
+    },
     /// There is no parameter with that code point.
     NotFound,
     /// What is to be changed isn't sound: parameters don't fill their data, a raw length is 0x8004, or bytes are left over
@@ -57,6 +63,12 @@ impl fmt::Display for ProtoError {
                 )
             }
             ProtoError::Incomplete => write!(f, "frame isn't whole"),
+            ProtoError::DeadContinuation { place } => {
+                write!(
+                    f,
+                    "frame is never whole: continuation length of 0 or 1 at byte {place}"
+                )
+            }
             ProtoError::NotFound => write!(f, "no such parameter"),
             ProtoError::UnsoundData { place } => write!(f, "unsound data at byte {place}"),
             ProtoError::UnreadableSize => write!(f, "changed frame would end in a full chunk"),
@@ -75,8 +87,13 @@ pub type Result<T> = std::result::Result<T, ProtoError>;
 pub(crate) struct Refusal(pub Words);
 
 impl Refusal {
+    /// Whether it says that a frame isn't whole, yet or ever.
     pub fn is_not_whole(&self) -> bool {
-        self.0[0] == 1
+        self.0[0] == 1 || self.is_never_whole()
+    }
+
+    pub fn is_never_whole(&self) -> bool {
+        self.0[0] == 16
     }
 
     pub fn is_no_room(&self) -> bool {
@@ -107,6 +124,9 @@ impl Refusal {
             7 => ProtoError::LengthTooShort(first as u16),
             8 => ProtoError::LengthTooLarge(first as usize),
             11 => ProtoError::NotFound,
+            16 => ProtoError::DeadContinuation {
+                place: place as usize,
+            },
             17 => ProtoError::UnsoundData {
                 place: place as usize,
             },

@@ -1,6 +1,6 @@
 //! One parameter changed: of an object, of a request already built.
 mod common;
-use common::{hex, pattern, Numbers};
+use common::{full_segments, hex, pattern, Numbers};
 use lattrugone::ddm::{build_ddm_object, build_param, DdmObject};
 use lattrugone::dss::{build_dss_request, change_request, DssReader};
 use lattrugone::ProtoError::{self, *};
@@ -249,6 +249,22 @@ fn frames_that_are_refused() {
 }
 
 #[test]
+fn frames_that_are_never_whole() {
+    let refused = |frame: &[u8]| change_request(frame, ROW, b"0412").unwrap_err();
+    for (segments, raw) in [(1, 0), (1, 1), (3, 0), (3, 1)] {
+        let place = segments * 32767;
+        let mut frame = full_segments(segments, raw);
+        assert_eq!(refused(&frame[..place]), Incomplete);
+        assert_eq!(refused(&frame[..place + 1]), Incomplete);
+        assert_eq!(refused(&frame), DeadContinuation { place });
+        // before a head that is refused, and before what is left over
+        (frame[2], frame[3]) = (0xD1, 0x05);
+        frame.extend(request(b"0412"));
+        assert_eq!(refused(&frame), DeadContinuation { place });
+    }
+}
+
+#[test]
 fn a_place_counts_the_heads_of_continuations() {
     // two headers of 4 or 8 bytes and `len` bytes stand before the parameter at fault; each further segment starts with two bytes
     for (len, place) in [
@@ -306,11 +322,14 @@ fn sizes_that_are_not_read_back() {
 
 #[test]
 fn texts_of_the_errors() {
-    let texts = [Incomplete, NotFound, unsound(14), UnreadableSize].map(|error| error.to_string());
+    let dead = DeadContinuation { place: 32767 };
+    let texts =
+        [Incomplete, dead, NotFound, unsound(14), UnreadableSize].map(|error| error.to_string());
     assert_eq!(
         texts,
         [
             "frame isn't whole",
+            "frame is never whole: continuation length of 0 or 1 at byte 32767",
             "no such parameter",
             "unsound data at byte 14",
             "changed frame would end in a full chunk"

@@ -1,6 +1,6 @@
 //! Heads, the writer, the reader.
 mod common;
-use common::{hex, pattern};
+use common::{full_segments, hex, pattern};
 use lattrugone::dss::*;
 use lattrugone::ProtoError::{BufferTooShort, InvalidDssType, InvalidMagic, LengthTooShort};
 
@@ -242,17 +242,81 @@ fn lengths_below_six_are_refused() {
     }
 }
 
+/// No frame is read, the reader stays where it is, and says this of the next frame.
+fn reads_none(reader: &mut DssReader, dead_at: Option<usize>) {
+    let position = reader.position();
+    assert_eq!(reader.dead_at(), dead_at);
+    assert!(!reader.has_complete_frame());
+    assert!(reader.next_frame().unwrap().is_none());
+    assert!(reader.next_frame_counted().unwrap().is_none());
+    assert!(reader.read_all_frames().unwrap().is_empty());
+    assert_eq!((reader.position(), reader.dead_at()), (position, dead_at));
+}
+
 #[test]
 fn continuations_that_are_never_whole() {
-    let mut run = build_dss_object(1, false, &pattern(32762));
-    for raw in [0u16, 1] {
-        run[32767..32769].copy_from_slice(&raw.to_be_bytes());
-        let mut reader = DssReader::new(run.clone());
-        reader.extend(&pattern(70000));
-        assert!(!reader.has_complete_frame());
-        assert!(reader.next_frame().unwrap().is_none());
+    for (segments, raw) in [(1, 0), (1, 1), (3, 0), (3, 1)] {
+        let place = segments * 32767;
+        let mut run = full_segments(segments, raw);
+        // magic and type aren't looked at before that
+        for (magic, format) in [(0xD0, 0x03), (0xD1, 0x03), (0xD0, 0x05)] {
+            (run[2], run[3]) = (magic, format);
+            let mut reader = DssReader::new(run[..place].to_vec());
+            reads_none(&mut reader, None);
+            reader.extend(&run[place..=place]);
+            reads_none(&mut reader, None);
+            reader.extend(&run[place + 1..]);
+            reads_none(&mut reader, Some(place));
+            for _ in 0..2 {
+                reader.extend(&hex("0006D0020007"));
+                reads_none(&mut reader, Some(place));
+            }
+            reader.extend(&pattern(70000));
+            reads_none(&mut reader, Some(place));
+            assert_eq!(DssReader::first_complete_frame_len(&run), None);
+            let left = reader.into_remaining();
+            assert_eq!(left[..run.len()], run);
+        }
+    }
+}
+
+#[test]
+fn continuations_that_may_become_whole() {
+    // a length of 2 is the smallest: a last continuation with no bytes
+    let run = full_segments(1, 2);
+    let mut reader = DssReader::new(run.clone());
+    assert_eq!(reader.dead_at(), None);
+    assert_eq!(reader.next_frame().unwrap().unwrap().payload.len(), 32761);
+    // the others wait for their bytes
+    for raw in [3, 0x7FFE, 0x7FFF, 0x8000, 0xFFFF] {
+        let run = full_segments(1, raw);
+        reads_none(&mut DssReader::new(run), None);
+    }
+    // and so do those of which there is a part of a head
+    for len in 0..6 {
+        reads_none(&mut DssReader::new(run[..len].to_vec()), None);
     }
     assert_eq!(DssReader::first_complete_frame_len(&run[..5]), None);
+}
+
+#[test]
+fn a_frame_before_one_that_is_never_whole() {
+    let mut reader = DssReader::new(hex("0007D0020007C1 0006D0420008"));
+    reader.extend(&full_segments(1, 1));
+    // it is the next frame of which that is said
+    assert_eq!(reader.dead_at(), None);
+    let payload = reader.next_frame().unwrap().unwrap().payload;
+    assert_eq!((payload, reader.dead_at()), (vec![0xC1], None));
+    let frames = reader.read_all_frames().unwrap();
+    assert_eq!((frames.len(), frames[0].header.correlation_id), (1, 8));
+    assert_eq!(reader.position(), 13);
+    reads_none(&mut reader, Some(13 + 32767));
+    // nor of one that is refused
+    let mut reader = DssReader::new(hex("0006D1020007"));
+    reader.extend(&full_segments(1, 1));
+    assert_eq!(reader.dead_at(), None);
+    assert_eq!(reader.next_frame().unwrap_err(), InvalidMagic(0xD1));
+    assert_eq!((reader.position(), reader.dead_at()), (0, None));
 }
 
 #[test]

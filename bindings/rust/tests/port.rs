@@ -1,6 +1,6 @@
 //! The archives' functions as they are: what a caller that lends its own room meets.
 mod common;
-use common::{hex, pattern};
+use common::{full_segments, hex, pattern};
 use lattrugone::ddm::{build_ddm_object, DdmObject};
 use lattrugone::dss::build_dss_object;
 use lattrugone::port::{self, Words, WORDS};
@@ -206,6 +206,34 @@ fn frame_ends() {
         words(|w| port::first_frame_end(&run, w)),
         [0, 0, 6, 0, 0, 0, 0, 0]
     );
+}
+
+#[test]
+fn a_frame_that_is_never_whole() {
+    let (before, frame) = (hex("0006D0020007"), full_segments(1, 1));
+    let run = [&before[..], &frame].concat();
+    let (mut room, mut row) = ([0x11; 4], [KEPT; 2 * WORDS]);
+    // the place is the length's, and the position stays
+    let dead = [16, 6 + 32767, 0, 0, 0, 0, 0, 0];
+    assert_eq!(words(|w| port::frame_end(&run, 6, w)), dead);
+    assert_eq!(words(|w| port::next_frame(&run, 6, &mut room, w)), dead);
+    assert_eq!(port::has_frame(&run, 6), 0);
+    let first = words(|w| port::first_frame_end(&frame, w));
+    let changed = words(|w| port::change_request(&frame, 0x2412, &[], &mut room, w));
+    assert_eq!((first, changed), ([16, 32767, 0, 0, 0, 0, 0, 0], first));
+    // one byte less, and it isn't whole yet
+    let cut = &run[..run.len() - 1];
+    let waits = [1, 6, 0, 0, 0, 0, 0, 0];
+    assert_eq!(words(|w| port::frame_end(cut, 6, w)), waits);
+    assert_eq!(words(|w| port::next_frame(cut, 6, &mut room, w)), waits);
+    // it ends a list, and is no entry
+    let all = words(|w| port::read_all_frames(&run, 0, &mut room, &mut row, w));
+    assert_eq!(all, [0, 6, 1, 0, 0, 0, 0, 0]);
+    let none = words(|w| port::read_all_frames(&run, 6, &mut room, &mut row[WORDS..], w));
+    assert_eq!(none, [0, 6, 0, 0, 0, 0, 0, 0]);
+    let salvaged = words(|w| port::salvage(&run, &mut room, &mut row, w));
+    assert_eq!(salvaged, [0, 0, 1, 0, 6, 0, 0, 0]);
+    assert_eq!((room, &row[WORDS..]), ([0x11; 4], &[KEPT; WORDS][..]));
 }
 
 #[test]

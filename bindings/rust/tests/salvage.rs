@@ -1,7 +1,7 @@
 //! The salvage reading. Demand 3: of any run of written frames that stand by themselves, some of them spoilt, every other frame is
 //! handed out as it was written, with one refusal at the first byte of each that is spoilt, and nothing else.
 mod common;
-use common::{hex, pattern, Numbers};
+use common::{full_segments, hex, pattern, Numbers};
 use lattrugone::ddm::build_ddm_object;
 use lattrugone::dss::{salvage, DssReader, DssType, DssWriter, Entry};
 use lattrugone::ProtoError::{InvalidDssType, InvalidMagic, LengthTooShort};
@@ -134,6 +134,14 @@ fn no_entry_for_what_is_not_whole() {
     assert_eq!(found(&[]), (vec![], 0));
     let run = hex("0006D0020007 0008D0020008FF");
     assert_eq!(found(&run), (vec![Found::Frame(2, 7, vec![])], 6));
+    // nor for what is never whole, whatever its head is and whatever stands behind it
+    for magic in [0xD0, 0xD1] {
+        let mut run = hex("0006D0020007");
+        run.extend(full_segments(1, 1));
+        run.extend(hex("0006D0020008"));
+        run[8] = magic;
+        assert_eq!(found(&run), (vec![Found::Frame(2, 7, vec![])], 6));
+    }
 }
 
 #[test]

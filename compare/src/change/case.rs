@@ -119,6 +119,9 @@ impl Held {
     fn hold_in(&mut self, tally: &mut Tally, by: By, case: Case, due: &Due, rooms: &[usize]) {
         self.run.lend_copy(case.run);
         self.new.lend_copy(case.new);
+        if case.call == Call::Request {
+            tally.dead.note(case.name(), case.run, 0);
+        }
         let mut result = Vec::new();
         for room in rooms {
             let (by, due) = match due {

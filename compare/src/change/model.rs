@@ -1,5 +1,6 @@
-//! What changing one parameter comes to, from document 02, W-204, alone, and what is beyond it (`change_request`) from the order
-//! that the header gives: the rules, each above what does it. It shares nothing with the port. Only the bytes that are written anew are the Rust's, its builder's and its writer's.
+//! What changing one parameter comes to, from document 02, W-204 and W-203, alone, and what is beyond them (`change_request`)
+//! from the order that the header gives: the rules, each above what does it. It shares nothing with the port. Only the bytes that
+//! are written anew are the Rust's, its builder's and its writer's.
 use crate::answers::{refused, Words};
 use crate::ddm::rust::text::header_len;
 use db2_proto::ddm::{build_ddm_object, build_param};
@@ -139,37 +140,44 @@ struct Read {
     end: usize,
 }
 
-/// The frame's own segments, or none where it isn't whole.
-fn whole(frame: &[u8]) -> Option<Read> {
+/// The frame's own segments; or 1 or 16 where it isn't whole.
+fn whole(frame: &[u8]) -> Result<Read, Words> {
+    let not_yet = Err(refused(1, 0, &[]));
     if frame.len() < 6 {
-        return None;
+        return not_yet;
     }
     let raw = number(frame, 0);
     let mut end = if raw == 0xFFFF { 32_767 } else { raw };
     if frame.len() < end {
-        return None;
+        return not_yet;
     }
     let mut places: Vec<usize> = (6..end).collect();
     let mut more = raw == 0xFFFF;
     while more {
         if frame.len() - end < 2 {
-            return None;
+            return not_yet;
         }
         let raw = number(frame, end);
+        // "16 says a continuation length of 0 or 1 was reached in an otherwise present frame, with the place of that length; 1
+        // remains for all else."
+        if raw < 2 {
+            return Err(refused(16, end as u64, &[]));
+        }
         more = raw == 0x7FFF || raw == 0xFFFF;
         let takes = if more { 32_767 } else { raw };
-        if takes < 2 || frame.len() - end < takes {
-            return None;
+        if frame.len() - end < takes {
+            return not_yet;
         }
         places.extend(end + 2..end + takes);
         end += takes;
     }
-    Some(Read { places, end })
+    Ok(Read { places, end })
 }
 
-/// The refusals of reading the one frame by the reader's rules, nothing absorbed: 1, 2, 3, 7.
+/// The refusals of reading the one frame by the reader's rules, nothing absorbed: 1 or 16, 2, 3, 7. "16 takes 1's place in the
+/// order."
 fn read(frame: &[u8]) -> Result<Read, Words> {
-    let read = whole(frame).ok_or(refused(1, 0, &[]))?;
+    let read = whole(frame)?;
     if frame[2] != 0xD0 {
         return Err(refused(2, 0, &[frame[2] as u64]));
     }

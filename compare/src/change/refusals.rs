@@ -5,6 +5,7 @@ use super::frames::{continued, head, sized, wide, Cut, Head};
 use super::requests::hold;
 use crate::ddm::lengths::headed;
 use crate::ddm::lists::{good, unfit};
+use crate::reader::long::each_dead;
 use crate::{By, Chance, Tally};
 use db2_proto::ddm::{build_ddm_object, build_param};
 
@@ -161,6 +162,11 @@ pub fn raws(tally: &mut Tally, held: &mut Held, chance: &mut Chance) {
     }
 }
 
+/// Frames that a continuation length of 0 or 1 ends; one that stands behind another frame is never come to.
+pub fn dead(tally: &mut Tally, held: &mut Held, chance: &mut Chance) {
+    each_dead(chance, |run, _| hold(tally, held, run, 0x2402, &[0xD1]));
+}
+
 /// Fewer than eight words stay as they are, and of more only eight are laid down: done, and each refusal, in rooms of each
 /// kind.
 pub fn few_words(tally: &mut Tally, held: &mut Held) {
@@ -173,6 +179,9 @@ pub fn few_words(tally: &mut Tally, held: &mut Held) {
         frame[place] = byte;
         frames.push(frame);
     }
+    let mut dead = Cut::first(0xFFFF, HEAD, &[0xC1; 32_761]);
+    dead.push(1, &[]);
+    frames.push(dead.bytes);
     // The new value of 18: headers of eight bytes before it, and as many bytes as make 65,526.
     let unreadable = vec![0xD1; 65_526 - 8 - 8];
     for words in 0..=12 {

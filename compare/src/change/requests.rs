@@ -92,7 +92,8 @@ fn payload(chance: &mut Chance) -> (Vec<u8>, Vec<usize>) {
     (payload, starts)
 }
 
-/// Spoils a frame, two times of three: a byte near a head, an object's or a parameter's start, the end, or bytes behind it.
+/// Spoils a frame, two times of three: a byte near a head, an object's or a parameter's start, the end, or bytes behind it; and
+/// of the others, one of two times a continuation's length, where there is one, which becomes 0 or 1.
 fn spoil(chance: &mut Chance, cut: &mut Cut, starts: &[usize]) {
     let mut marks = vec![0, 6];
     marks.extend(&cut.continuations);
@@ -112,6 +113,11 @@ fn spoil(chance: &mut Chance, cut: &mut Cut, starts: &[usize]) {
             let behind = 1 + chance.below(9);
             let bytes = chance.bytes(behind);
             cut.bytes.extend(bytes);
+        }
+        4 if !cut.continuations.is_empty() => {
+            let place = cut.continuations[chance.below(cut.continuations.len())];
+            cut.bytes[place] = 0;
+            cut.bytes[place + 1] = chance.below(2) as u8;
         }
         _ => (),
     }

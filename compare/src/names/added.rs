@@ -1,8 +1,9 @@
-//! What lattrugone adds to db2-proto's names: its `salvage` held to the model, and `next_frame_counted` and `position` to document
-//! 01's walk and to what remains.
+//! What lattrugone adds to db2-proto's names: its `salvage` held to the model, and `next_frame_counted`, `dead_at` and `position`
+//! to the walk and to what remains.
 use super::seen::Head;
 use super::Names;
 use crate::answers::Bytes;
+use crate::reader::long::each_dead;
 use crate::reader::walk::{walk, Walked};
 use crate::reader::{runs, PAPER};
 use crate::salvage::model::{self, Entry};
@@ -21,6 +22,7 @@ pub fn compare(names: &mut Names, chance: &mut Chance, cases: u64) {
             }
         }
     }
+    each_dead(chance, |run, _| hold(names, run));
     for _ in 0..cases {
         let mut run = runs::random(chance, LONG);
         for _ in 0..chance.below(4) {
@@ -37,11 +39,25 @@ fn hold(names: &mut Names, run: &[u8]) {
         .held(By::Model, "dss::salvage", shown(run), port, due);
     let mut reader = DssReader::new(run.to_vec());
     loop {
-        let due = walk(&run[reader.position()..]);
-        let Ok(Some((_, segments))) = reader.next_frame_counted() else {
-            let place = (reader.position(), matches!(due, Walked::Frame { .. }));
-            let due = (run.len() - reader.remaining(), false);
-            return names.document("DssReader::position", shown(run), place, due);
+        let at = reader.position();
+        let due = walk(&run[at..]);
+        let dead = match due {
+            Walked::Dead { behind } => Some(at + behind),
+            _ => None,
+        };
+        names.document("DssReader::dead_at", shown(run), reader.dead_at(), dead);
+        let read = reader.next_frame_counted();
+        let none = matches!(read, Ok(None));
+        let Ok(Some((_, segments))) = read else {
+            let (place, stands) = (reader.position(), run.len() - reader.remaining());
+            // Not whole, yet or ever: none, and it stays. Else an error, of which the walk says where 7 stands.
+            let due = match due {
+                Walked::NotWhole | Walked::Dead { .. } => Some((true, at)),
+                Walked::TooShort { behind, .. } => Some((false, at + behind)),
+                Walked::BadHead => Some((false, stands)),
+                Walked::Frame { .. } => None,
+            };
+            return names.document("DssReader::position", shown(run), Some((none, place)), due);
         };
         let port = Walked::Frame {
             segments: segments as u64,

@@ -3,6 +3,7 @@
 //! are compiled over both, and come to the same.
 use super::objects::loses_bits;
 use super::Names;
+use crate::reader::long::each_dead;
 use crate::reader::{runs, PAPER};
 use crate::stops::unless_stopped;
 use crate::{shown, Chance};
@@ -25,6 +26,7 @@ pub fn compare(names: &mut Names, chance: &mut Chance, cases: u64) {
             hold(names, &[first, second].concat());
         }
     }
+    each_dead(chance, |run, _| hold(names, run));
     for case in 0..cases {
         let mut run = runs::random(chance, usize::MAX);
         if chance.below(2) == 0 {

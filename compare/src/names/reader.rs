@@ -1,7 +1,7 @@
 //! The reader: runs read frame by frame, all at once, and as they arrive.
 use super::seen::{Case, Frame, Seen, Why};
 use super::{port, rust, Names};
-use crate::reader::long::{each_continued, written, AROUND, EDGES, TYPES};
+use crate::reader::long::{each_continued, each_dead, written, AROUND, EDGES, TYPES};
 use crate::reader::short::{every_frame, framed};
 use crate::reader::{runs, PAPER};
 use crate::stops::unless_stopped;
@@ -46,7 +46,8 @@ pub fn compare(names: &mut Names, chance: &mut Chance, cases: u64) {
     }
 }
 
-/// Frames around each edge as the Rust writes them, and continuations of each kind.
+/// Frames around each edge as the Rust writes them, continuations of each kind, and those of length 0 and 1, the last byte also
+/// arriving by itself: `None`, and the reader stays where it was.
 fn long(names: &mut Names, chance: &mut Chance) {
     for len in EDGES
         .into_iter()
@@ -60,6 +61,10 @@ fn long(names: &mut Names, chance: &mut Chance) {
     }
     let behind = framed(0x13, 7, &[0xC1, 0xC2]);
     each_continued(chance, &behind, |run| hold(names, run));
+    each_dead(chance, |run, _| {
+        hold(names, run);
+        arriving(names, run, &[run.len() - 1]);
+    });
 }
 
 /// A random run, damaged once of two times and cut once of three; at times as it arrives in a few parts.
@@ -107,9 +112,14 @@ impl<'a> Both<'a> {
         }
     }
 
+    /// Where the Rust's reader stands.
+    fn at(&self) -> usize {
+        self.run.len() - self.rust.remaining()
+    }
+
     /// What document 01 says where the Rust stopped: it stands at a length below 6.
     fn too_short<A>(&self) -> Seen<A> {
-        let at = self.run.len() - self.rust.remaining();
+        let at = self.at();
         let length = self.run[at] as usize * 256 + self.run[at + 1] as usize;
         assert!(length < 6, "the Rust stops at another place");
         Err(Why {
@@ -121,6 +131,7 @@ impl<'a> Both<'a> {
 
     /// The next frame; whether there was one.
     fn next(&mut self, names: &mut Names) -> bool {
+        names.tally.dead.note(NEXT[0], self.run, self.at());
         let (port, reader) = (self.port.next(), &mut self.rust);
         let rust: Option<Seen<Option<Frame>>> = unless_stopped(|| reader.next());
         let goes_on = matches!(rust, Some(Ok(Some(_))));
@@ -134,7 +145,11 @@ impl<'a> Both<'a> {
 
     fn all(&mut self, names: &mut Names) {
         let (port, reader) = (self.port.all(), &mut self.rust);
-        match unless_stopped(|| reader.all()) {
+        let rust: Option<Seen<Vec<Frame>>> = unless_stopped(|| reader.all());
+        if let Some(Ok(_)) = rust {
+            names.tally.dead.note(ALL[0], self.run, self.at());
+        }
+        match rust {
             Some(rust) => names.result(ALL, shown(self.run), port, rust),
             None => names.document(ALL[0], shown(self.run), port, self.too_short()),
         }

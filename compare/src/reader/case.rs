@@ -1,7 +1,7 @@
 //! One run, read by both: each call at each position that the Rust comes to, then all frames at once.
 use super::all::{listed, to_end, ByFrame};
-use super::rust::{next, position, Read};
-use crate::answers::{answered, done, expected, refused, Answer};
+use super::rust::{end, next, position, Read};
+use crate::answers::{answered, expected, refused, Answer};
 use crate::lent::Lent;
 use crate::rows::{Call, Listed, Rows};
 use crate::{port, shown, By, Tally};
@@ -90,20 +90,24 @@ impl Held {
     }
 
     /// A run that arrives in two parts: what the Rust's `extend` adds is a longer run at the same position. What the first part
-    /// refuses but with 1 stays refused, and nothing is read on.
+    /// refuses but with 1 stays refused: nothing is read on, and 16 is answered again.
     pub fn hold_arriving(&mut self, tally: &mut Tally, run: &[u8], first: usize) {
         let mut reader = DssReader::new(run[..first].to_vec());
         let mut part = &run[..first];
+        let mut dead = None;
         loop {
             let at = position(&reader, part);
             let mut case = self.lend(part);
             case.look(tally, &reader, at);
             let read = next(tally, &mut reader, part, 0);
+            let read = dead.take().map_or(read, Read::Refused);
             case.next(tally, at, &read);
             if let Read::Refused(answer) = read {
-                if answer[0] != 1 || part.len() == run.len() {
+                let not_whole = answer[0] == 1 || answer[0] == 16;
+                if !not_whole || part.len() == run.len() {
                     return;
                 }
+                dead = (answer[0] == 16).then_some(answer);
                 reader.extend(&run[first..]);
                 part = run;
             }
@@ -137,19 +141,11 @@ impl Case<'_> {
         port.with_run(run, self.run)
     }
 
-    /// A frame's end, or 1.
-    fn end(&self, end: Option<usize>, at: usize) -> Answer {
-        let answer = match end {
-            Some(end) => done(&[(at + end) as u64]),
-            None => refused(1, at as u64, &[]),
-        };
-        expected(answer, self.words)
-    }
-
     fn first(&mut self, tally: &mut Tally) {
-        let rust = self.end(DssReader::first_complete_frame_len(self.run), 0);
+        tally.dead.note("first_complete_frame_len", self.run, 0);
+        let due = expected(end(tally, self.run, 0), self.words);
         let port = self.call(port::first_frame_end);
-        tally.answer("first_complete_frame_len", shown(self.run), port, rust);
+        tally.answer("first_complete_frame_len", shown(self.run), port, due);
     }
 
     /// What the calls say that read nothing: what remains, whether a frame is whole, where it ends.
@@ -158,9 +154,11 @@ impl Case<'_> {
         let port = (port::remaining(run, at), port::has_frame(run, at));
         let rust = (reader.remaining(), reader.has_complete_frame() as u8);
         tally.same("remaining, has_complete_frame", shown(self.run), port, rust);
-        let rust = self.end(DssReader::first_complete_frame_len(&self.run[at..]), at);
+        tally.dead.note("has_complete_frame", self.run, at);
+        let due = expected(end(tally, self.run, at), self.words);
         let port = self.call(|run, words| port::frame_end(run, at, words));
-        tally.answer("complete_frame_len", shown(self.run), port, rust);
+        tally.answer("complete_frame_len", shown(self.run), port, due);
+        tally.dead.note("complete_frame_len", self.run, at);
     }
 
     /// The same beyond the run.
@@ -181,6 +179,7 @@ impl Case<'_> {
 
     /// Reads a frame: into a room that is just enough, and in turn into a longer one, one that is short by one, an empty one.
     fn next(&mut self, tally: &mut Tally, at: usize, read: &Read) {
+        tally.dead.note("next_frame", self.run, at);
         let need = read.payload_len();
         self.held.turn += 1;
         let turn = self.held.turn;
@@ -213,6 +212,11 @@ impl Case<'_> {
 
     /// All frames from a position on.
     fn all(&mut self, tally: &mut Tally, at: usize, listed: &Listed) {
+        if let Listed::All { words, .. } = listed {
+            tally
+                .dead
+                .note("read_all_frames", self.run, words[1] as usize);
+        }
         let Held { run, rows, .. } = &mut *self.held;
         let call = Call {
             name: "read_all_frames",

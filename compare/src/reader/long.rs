@@ -68,10 +68,10 @@ pub fn edges(tally: &mut Tally, held: &mut Held, chance: &mut Chance) {
     }
 }
 
-/// Runs with continuations of each raw length, the first one, behind one of 0xFFFF and behind one of 0x7FFF, before what stands
-/// behind them: whole, cut around each continuation's start, and with the frame's own head spoilt.
+/// Runs with continuations of each raw length, the first one, behind one of 0xFFFF, behind one of 0x7FFF and behind two, before
+/// what stands behind them: whole, cut around each continuation's start, and with the frame's own head spoilt.
 pub fn each_continued(chance: &mut Chance, behind: &[u8], mut hold: impl FnMut(&[u8])) {
-    for before in [&[][..], &[0xFFFF], &[0x7FFF]] {
+    for before in [&[][..], &[0xFFFF], &[0x7FFF], &[0x7FFF, 0xFFFF]] {
         for raw in RAWS {
             let (mut run, places) = continued(chance, 0x43, &[before, &[raw]].concat());
             run.extend(behind);
@@ -85,6 +85,44 @@ pub fn each_continued(chance: &mut Chance, behind: &[u8], mut hold: impl FnMut(&
             hold(&run);
         }
     }
+}
+
+/// Runs with a frame that a continuation length of 0 or 1 ends, the first, the second or the third, and the frame's place. It
+/// stands alone, behind a short one and behind a long one, which doesn't look at the next head; its own head is good, has
+/// another magic or another type; and the run ends with the first byte of that length, with the length, and with a frame behind
+/// it.
+pub fn each_dead(chance: &mut Chance, mut hold: impl FnMut(&[u8], usize)) {
+    let (long, _) = continued(chance, 0x42, &[2]);
+    let fronts = [Vec::new(), framed(0x42, 7, &[0xC1]), long];
+    let behind = framed(0x13, 7, &[0xC1, 0xC2]);
+    for full in [&[][..], &[0xFFFF], &[0x7FFF, 0xFFFF]] {
+        for raw in [0, 1] {
+            let (frame, places) = continued(chance, 0x43, &[full, &[raw]].concat());
+            for front in &fronts {
+                let start = front.len();
+                let length = start + places[full.len()];
+                for (magic, format) in [(0xD0, 0x43), (0xD1, 0x43), (0xD0, 0x45)] {
+                    let mut run = [&front[..], &frame, &behind].concat();
+                    run[start + 2] = magic;
+                    run[start + 3] = format;
+                    for end in [length + 1, length + 2, run.len()] {
+                        hold(&run[..end], start);
+                    }
+                }
+            }
+        }
+    }
+}
+
+/// Those runs: from their first byte, from that frame on, and with the last byte arriving by itself.
+pub fn dead(tally: &mut Tally, held: &mut Held, chance: &mut Chance) {
+    let mut turn = 0;
+    each_dead(chance, |run, start| {
+        turn += 1;
+        held.hold(tally, run);
+        held.hold_at(tally, run, start, turn % 13);
+        held.hold_arriving(tally, run, run.len() - 1);
+    });
 }
 
 /// Continuations with a segment behind them that could be absorbed. A head is refused only where the frame is whole.

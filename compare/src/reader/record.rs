@@ -3,9 +3,9 @@ pub mod runs;
 
 use super::all::{listed, to_end};
 use super::case::beyond;
-use super::rust::{next, position, Read};
+use super::rust::{end, next, position, Read};
 use super::PAPER;
-use crate::answers::{done, expected, refused, Answer};
+use crate::answers::expected;
 use crate::record::{structs, Asked, List, FEW_WORDS};
 use crate::{Chance, Tally};
 use db2_proto::dss::DssReader;
@@ -23,21 +23,19 @@ pub fn record(list: &mut List, tally: &mut Tally, chance: &mut Chance) {
     few_words(list, tally);
 }
 
-/// A frame's end, or 1.
-fn end(run: &[u8], at: usize, words: usize) -> Answer {
-    let answer = match DssReader::first_complete_frame_len(&run[at..]) {
-        Some(end) => done(&[(at + end) as u64]),
-        None => refused(1, at as u64, &[]),
-    };
-    expected(answer, words)
-}
-
 /// What the calls say that read nothing.
-fn look(list: &mut List, reader: &DssReader, run: &[u8], at: usize, words: usize) {
+fn look(
+    list: &mut List,
+    tally: &mut Tally,
+    reader: &DssReader,
+    run: &[u8],
+    at: usize,
+    words: usize,
+) {
     let asked = |call: u64| Asked::new(call, &[at as u64], run).words(words);
     list.number(asked(48), reader.remaining() as u64);
     list.number(asked(49), reader.has_complete_frame() as u64);
-    list.answer(asked(50), 0, &end(run, at, words));
+    list.answer(asked(50), 0, &expected(end(tally, run, at), words));
 }
 
 /// Reads a frame: into a room that is just enough, and into one that is short by one, longer or empty.
@@ -53,13 +51,14 @@ fn read_in(list: &mut List, run: &[u8], at: usize, read: &Read, words: usize, tu
 /// A run: its first frame's end; frame by frame until one is refused, of which one has the calls that read nothing; all frames,
 /// in a room and a row that are just enough, and in others.
 fn whole(list: &mut List, tally: &mut Tally, run: &[u8], turn: usize) {
-    list.answer(Asked::new(51, &[], run), 0, &end(run, 0, 8));
+    let first = expected(end(tally, run, 0), 8);
+    list.answer(Asked::new(51, &[], run), 0, &first);
     let mut reader = DssReader::new(run.to_vec());
     let mut frames = 0;
     loop {
         let at = position(&reader, run);
         if frames == turn % 2 {
-            look(list, &reader, run, at, 8);
+            look(list, tally, &reader, run, at, 8);
         }
         let read = next(tally, &mut reader, run, 0);
         read_in(list, run, at, &read, 8, turn + frames);
@@ -111,7 +110,7 @@ fn positions(list: &mut List, tally: &mut Tally) {
                 continue;
             };
             let mut reader = DssReader::new(rest.to_vec());
-            look(list, &reader, run, at, 8);
+            look(list, tally, &reader, run, at, 8);
             let read = next(tally, &mut reader, rest, at);
             read_in(list, run, at, &read, 8, turn);
             all_at(list, tally, run, at, 8, turn);
@@ -132,14 +131,12 @@ fn outside(list: &mut List, run: &[u8], at: usize) {
 
 fn few_words(list: &mut List, tally: &mut Tally) {
     for words in FEW_WORDS {
-        for run in [PAPER[1], PAPER[2], PAPER[4], PAPER[8]] {
-            list.answer(
-                Asked::new(51, &[], run).words(words),
-                0,
-                &end(run, 0, words),
-            );
+        let dead = &runs::dead(0, 1)[1];
+        for run in [PAPER[1], PAPER[2], PAPER[4], PAPER[8], dead] {
+            let first = expected(end(tally, run, 0), words);
+            list.answer(Asked::new(51, &[], run).words(words), 0, &first);
             let mut reader = DssReader::new(run.to_vec());
-            look(list, &reader, run, 0, words);
+            look(list, tally, &reader, run, 0, words);
             let read = next(tally, &mut reader, run, 0);
             read_in(list, run, 0, &read, words, words);
             all_at(list, tally, run, 0, words, words);

@@ -97,8 +97,8 @@ impl Run {
             1 => {
                 let full = [0x7FFF, 0xFFFF][chance.below(2)];
                 let last = RAWS[chance.below(RAWS.len())];
-                let raws = [full, last];
-                let from = chance.below(2);
+                let raws = [full, 0xFFFF, last];
+                let from = chance.below(3);
                 let (bytes, places) = continued(chance, format, &raws[from..]);
                 let start = self.bytes.len();
                 self.push(&bytes);

@@ -1,6 +1,6 @@
 //! The Rust's reader, call by call. It gives no positions: what remains shows them, also after it stopped.
 use super::walk::{walk, Walked};
-use crate::answers::{expected, of_error, refused, Answer, Words};
+use crate::answers::{done, expected, of_error, refused, Answer, Words};
 use crate::rows::frame_words;
 use crate::stops::unless_stopped;
 use crate::{shown, Tally};
@@ -66,8 +66,34 @@ pub fn position(reader: &DssReader, bytes: &[u8]) -> usize {
     bytes.len() - reader.remaining()
 }
 
-/// The next frame of a reader of these bytes, which are a run's from a place on: the Rust's, with the segments of document
-/// 01's walk. Both must say that there is a frame, that it isn't whole, that a head is refused, or that the Rust stops and where.
+/// The refusal of a frame at a place that isn't whole, the Rust's `None`: 1 at that place, or 16 at the length. Nothing of any
+/// other frame.
+fn not_whole(walked: &Walked, place: usize) -> Option<Words> {
+    match walked {
+        Walked::NotWhole => Some(refused(1, place as u64, &[])),
+        Walked::Dead { behind } => Some(refused(16, (place + behind) as u64, &[])),
+        _ => None,
+    }
+}
+
+/// The end of the frame at a place: the Rust's, or why there is none by the walk. Both must say whether there is one.
+pub fn end(tally: &mut Tally, run: &[u8], at: usize) -> Words {
+    let rest = &run[at..];
+    let (given, none) = (
+        DssReader::first_complete_frame_len(rest),
+        not_whole(&walk(rest), at),
+    );
+    let what = "the walk and complete_frame_len";
+    tally.own(what, shown(rest), none.is_none(), given.is_some());
+    match given {
+        Some(end) => done(&[(at + end) as u64]),
+        None => none.unwrap_or(refused(0, at as u64, &[])),
+    }
+}
+
+/// The next frame of a reader of these bytes, which are a run's from a place on: the Rust's, with the segments of the walk. Both
+/// must say that there is a frame, that it isn't whole, that a head is refused, or that the Rust stops and where. A frame that
+/// isn't whole leaves the Rust's reader where it was, also one that never will be.
 pub fn next(tally: &mut Tally, reader: &mut DssReader, bytes: &[u8], from: usize) -> Read {
     let at = position(reader, bytes);
     let walked = walk(&bytes[at..]);
@@ -80,8 +106,12 @@ pub fn next(tally: &mut Tally, reader: &mut DssReader, bytes: &[u8], from: usize
         Some(Ok(Some(_))) => "a frame",
         None => "stopped",
     };
+    let what = "the walk and next_frame";
+    if let Some(refusal) = not_whole(&walked, from + at) {
+        tally.own(what, shown(bytes), ("not whole", at), (rust, stands));
+        return Read::Refused(refusal);
+    }
     let (paper, read) = match (walked, given) {
-        (Walked::NotWhole, _) => ("not whole", Read::Refused(refused(1, place, &[]))),
         (Walked::BadHead, Some(Err(error))) => {
             ("a head refused", Read::Refused(of_error(&error, place)))
         }
@@ -102,6 +132,6 @@ pub fn next(tally: &mut Tally, reader: &mut DssReader, bytes: &[u8], from: usize
         }
         (_, _) => ("another", Read::Refused(refused(0, place, &[]))),
     };
-    tally.own("document 01 and next_frame", shown(bytes), paper, rust);
+    tally.own(what, shown(bytes), paper, rust);
     read
 }

@@ -1,11 +1,14 @@
-//! Document 01's reading where the Rust shows nothing: how many segments a frame has, and which length below six stopped the
-//! Rust and where it stands. It is written from document 01 alone.
+//! The reading where the Rust shows nothing: how many segments a frame has, which length below six stopped the Rust and where
+//! it stands, and of a frame that isn't whole whether further bytes can mend it. It is written from document 01 alone, and the
+//! last from document 02, W-203.
 
 /// What the bytes from a position on come to.
 #[derive(Debug, PartialEq)]
 pub enum Walked {
     /// Answer 1.
     NotWhole,
+    /// Answer 16: how far behind the position the length of 0 or 1 stands.
+    Dead { behind: usize },
     /// Answer 2 or 3, of which the Rust says the values.
     BadHead,
     /// Answer 7: the length, and how far behind the position its head stands.
@@ -25,27 +28,31 @@ fn head(bytes: &[u8]) -> Option<(u8, bool)> {
     (good && (1..=4).contains(&kind)).then_some((kind, bytes[3] & 0x10 != 0))
 }
 
-/// "The frame's end": the segments that the frame at the first byte has of its own, where it is whole.
-fn own_segments(bytes: &[u8]) -> Option<u64> {
+/// "The frame's end": the segments that the frame at the first byte has of its own, or why it isn't whole. "16 says a
+/// continuation length of 0 or 1 was reached in an otherwise present frame, with the place of that length; 1 remains for all
+/// else".
+fn own_segments(bytes: &[u8]) -> Result<u64, Walked> {
     if bytes.len() < 6 {
-        return None;
+        return Err(Walked::NotWhole);
     }
     let raw = number(bytes, 0);
     if raw != 0xFFFF {
-        return (raw <= bytes.len()).then_some(1);
+        let whole = raw <= bytes.len();
+        return whole.then_some(1).ok_or(Walked::NotWhole);
     }
-    let mut rest = bytes.get(32_767..)?;
-    for segments in 2.. {
-        if rest.len() < 2 {
-            return None;
-        }
-        match number(rest, 0) {
-            0 | 1 => return None,
-            0x7FFF | 0xFFFF => rest = rest.get(32_767..)?,
-            last => return (last <= rest.len()).then_some(segments),
+    let (mut behind, mut segments) = (32_767, 1);
+    while behind + 2 <= bytes.len() {
+        segments += 1;
+        match number(bytes, behind) {
+            0 | 1 => return Err(Walked::Dead { behind }),
+            0x7FFF | 0xFFFF => behind += 32_767,
+            last => {
+                let whole = behind + last <= bytes.len();
+                return whole.then_some(segments).ok_or(Walked::NotWhole);
+            }
         }
     }
-    None
+    Err(Walked::NotWhole)
 }
 
 /// "Length above 10, bytes 3 and 4 of its payload above 0x0100 as a number, and bytes 1 and 2 at most length - 2".
@@ -54,8 +61,9 @@ fn is_own_object(bytes: &[u8], length: usize) -> bool {
 }
 
 pub fn walk(bytes: &[u8]) -> Walked {
-    let Some(own) = own_segments(bytes) else {
-        return Walked::NotWhole;
+    let own = match own_segments(bytes) {
+        Ok(own) => own,
+        Err(not_whole) => return not_whole,
     };
     let Some((first, _)) = head(bytes) else {
         return Walked::BadHead;

@@ -224,7 +224,8 @@ pub fn salvage(run: &[u8]) -> Salvage {
     // "From byte 0".
     let mut place = 0;
     loop {
-        // "Not whole ends the walk with no entry. The tail's place, where the walk ended, is given".
+        // "Not whole ends the walk with no entry. The tail's place, where the walk ended, is given". Document 02, W-203, has two
+        // answers for not whole and leaves that as it is: "`read_all_frames` and salvage end at either".
         let Some(own) = own(run, place) else {
             break;
         };

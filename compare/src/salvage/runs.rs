@@ -1,6 +1,6 @@
 //! Runs to salvage: short ones one and all, long ones around each edge, and random ones, each damaged and cut.
 use super::{Held, MOST};
-use crate::reader::long::{each_continued, written, TYPES};
+use crate::reader::long::{each_continued, each_dead, written, TYPES};
 use crate::reader::short::{every_frame, frame, framed};
 use crate::reader::{runs, PAPER};
 use crate::{Chance, Tally};
@@ -122,9 +122,10 @@ pub fn edges(tally: &mut Tally, held: &mut Held, chance: &mut Chance) {
     }
 }
 
-/// Continuations with frames behind them, of which the first could be absorbed.
+/// Continuations with frames behind them, of which the first could be absorbed. At one of length 0 or 1 the walk ends.
 pub fn continuations(tally: &mut Tally, held: &mut Held, chance: &mut Chance) {
     each_continued(chance, &[TWO, GOOD].concat(), |run| held.hold(tally, run));
+    each_dead(chance, |run, _| held.hold(tally, run));
     // The same lengths as a frame's own, with so many bytes.
     for length in [0x7FFE, 0x7FFF, 0x8000, 0x8004, 0xFFFE] {
         for format in [0x03, 0x13, 0x05] {

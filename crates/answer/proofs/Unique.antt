@@ -1,10 +1,12 @@
 -- Any two outcomes that a contract of this crate allows are equal. Each statement names the contract.
 use Prim.Native.Nat.{ℕ}
 use mathlib.Core.Path.{_≡_, sym, _∙_}
+use mathlib.Core.Bool.{Bool}
 use contract.Lifetimes.{Lfts}
 use Rattle.answer.specs.declared.Refusal.{Refusal}
 use Rattle.answer.specs.declared.RoomFor.{RoomFor}
 use Rattle.answer.proofs.Refusal.number.Reads as number
+use Rattle.answer.proofs.Refusal.not_whole.Reads as not-whole
 use Rattle.answer.proofs.Refusal.first_value.Reads as first-value
 use Rattle.answer.proofs.Refusal.second_value.Reads as second-value
 use Rattle.answer.proofs.Refusal.third_value.Reads as third-value
@@ -12,6 +14,9 @@ use Rattle.answer.proofs.room_for.Reads as room-for
 
 pub number-one : (κs : Lfts 0) (x : Refusal) (r r′ : ℕ) → number.Post κs (x, tt) r (x, tt) → number.Post κs (x, tt) r′ (x, tt) → r ≡ r′
 number-one κs x r r′ p q = p ∙ sym q
+
+pub not-whole-one : (κs : Lfts 0) (x : Refusal) (r r′ : Bool) → not-whole.Post κs (x, tt) r (x, tt) → not-whole.Post κs (x, tt) r′ (x, tt) → r ≡ r′
+not-whole-one κs x r r′ p q = p ∙ sym q
 
 pub first-value-one : (κs : Lfts 0) (x : Refusal) (r r′ : ℕ) → first-value.Post κs (x, tt) r (x, tt) → first-value.Post κs (x, tt) r′ (x, tt) → r ≡ r′
 first-value-one κs x r r′ p q = p ∙ sym q

@@ -1,7 +1,7 @@
 // Why a call refuses, and where: document 01, "Answer numbers", and document 02 from 12 on. The Rust's `ProtoError` is 2, 3 and 4 of these.
 ghost use mathlib.Core.Path.{_≡_};
 ghost use lib.ListN.{getD};
-ghost use Rattle.answer.specs.Numbers.{numberOf, valuesOf};
+ghost use Rattle.answer.specs.Numbers.{numberOf, notWhole, valuesOf};
 ghost use Rattle.answer.specs.Rooms.{roomFor};
 
 pub enum Refusal {
@@ -27,6 +27,8 @@ pub enum Refusal {
     OutOfBounds { mark: usize, length: usize },
     // 11: no such parameter, or too few bytes for the number asked.
     NotFound,
+    // 16: a continuation length of 0 or 1 stands at the place: the frame is never whole, whatever bytes follow.
+    DeadContinuation,
     // 17: parameters that don't reach their data's end, or one with raw length 0x8004; or a request that isn't one frame with one
     // object.
     UnsoundData,
@@ -78,9 +80,21 @@ impl Refusal {
             } => 9,
             Refusal::OutOfBounds { mark: _, length: _ } => 10,
             Refusal::NotFound => 11,
+            Refusal::DeadContinuation => 16,
             Refusal::UnsoundData => 17,
             Refusal::UnreadableSize => 18,
         }
+    }
+
+    // Whether it says that a frame isn't whole: yet (1), or ever (16).
+    pub fn not_whole(self) -> bool
+        ensures { λ r. ⌜ r ≡ notWhole self ⌝ }
+    {
+        let number = self.number();
+        if number == 1 {
+            return true;
+        }
+        number == 16
     }
 
     // The first value that it carries, 0 where it carries none.
@@ -105,6 +119,7 @@ impl Refusal {
             Refusal::NoRoom { bytes, records: _ } => bytes,
             Refusal::OutOfBounds { mark, length: _ } => mark,
             Refusal::NotFound => 0,
+            Refusal::DeadContinuation => 0,
             Refusal::UnsoundData => 0,
             Refusal::UnreadableSize => 0,
         }
@@ -132,6 +147,7 @@ impl Refusal {
             Refusal::LengthTooShort(_) => 0,
             Refusal::LengthTooLarge(_) => 0,
             Refusal::NotFound => 0,
+            Refusal::DeadContinuation => 0,
             Refusal::UnsoundData => 0,
             Refusal::UnreadableSize => 0,
         }
@@ -162,6 +178,7 @@ impl Refusal {
             Refusal::LengthTooShort(_) => 0,
             Refusal::LengthTooLarge(_) => 0,
             Refusal::NotFound => 0,
+            Refusal::DeadContinuation => 0,
             Refusal::UnsoundData => 0,
             Refusal::UnreadableSize => 0,
         }

@@ -7,7 +7,7 @@ use lib.Dec.{eqb}
 use lib.ListN.{length, replicate}
 use Rattle.wire.specs.Bytes.{and, two}
 use Rattle.answer.specs.declared.Refusal.{Refusal}
-use Rattle.answer.specs.declared.Refusal.the-variants.{Incomplete, InvalidMagic, InvalidDssType, LengthTooShort, NotFound, UnsoundData, UnreadableSize}
+use Rattle.answer.specs.declared.Refusal.the-variants.{Incomplete, DeadContinuation, InvalidMagic, InvalidDssType, LengthTooShort, NotFound, UnsoundData, UnreadableSize}
 use Rattle.answer.specs.declared.Refusal.the-variants.{BufferTooShort, InlineTooShort, HeaderTooShort, LengthTooLarge}
 use Rattle.dss_head.specs.declared.DssType.the-variants.{Request}
 use Rattle.dss_frame.specs.Written.{written}
@@ -30,14 +30,16 @@ object d = two (length d + 4) ++ (0x20 ∷ 0x0D ∷ d)
 abbrev seven : List ℕ
 seven = 0 ∷ 5 ∷ 0x21 ∷ 0x10 ∷ 7 ∷ []
 
--- ---- the frame's own: 1, 2, 3, 7, each at 0
+-- ---- the frame's own: 1, 2, 3, 7, each at 0, and 16 at the length
 
--- 1: a byte is missing, and it comes before 2 and 3; five bytes are no frame; a continuation length of 1 is never whole
+-- 1: a byte is missing, and it comes before 2 and 3; five bytes are no frame. 16: a continuation length of 1 is never whole,
+-- which comes before 2 and 3 as well
 cut : (requestOf (0 ∷ 8 ∷ 0xD1 ∷ 0 ∷ 0 ∷ 3 ∷ 0 ∷ []) 0x2110 [] ≡ no Incomplete 0)
     × (requestOf (0 ∷ 5 ∷ 0xD0 ∷ 1 ∷ 0 ∷ []) 0x2110 [] ≡ no Incomplete 0)
-    × (requestOf (0xFF ∷ 0xFF ∷ 0xD0 ∷ 1 ∷ replicate 32763 0 ++ (0 ∷ 1 ∷ [])) 0x2110 [] ≡ no Incomplete 0)
+    × (requestOf (0xFF ∷ 0xFF ∷ 0xD0 ∷ 1 ∷ replicate 32763 0 ++ (0 ∷ 1 ∷ [])) 0x2110 [] ≡ no DeadContinuation 32767)
+    × (requestOf (0xFF ∷ 0xFF ∷ 0xD1 ∷ 0 ∷ replicate 32763 0 ++ (0 ∷ 0 ∷ [])) 0x2110 [] ≡ no DeadContinuation 32767)
 unfolding requestOf parameters
-cut = (refl, refl, refl)
+cut = (refl, refl, refl, refl)
 
 -- 2 comes before 3, 3 before 7, and 7 before 17 for the byte behind the frame
 heads : (requestOf (0 ∷ 6 ∷ 0xD1 ∷ 0x15 ∷ 0 ∷ 3 ∷ []) 0x2110 [] ≡ no (InvalidMagic 0xD1) 0)

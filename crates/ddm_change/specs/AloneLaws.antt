@@ -1,4 +1,4 @@
--- A frame read alone: 1, then head 2, 3, 7, then the frame, by what its walk comes to.
+-- A frame read alone: 1 or 16, then head 2, 3, 7, then the frame, by what its walk comes to.
 use Prim.Native.Nat.{ℕ, _≤_, _<_}
 use native.Mathlib.Omega.{arith}
 use mathlib.Core.Path.{_≡_, refl, sym, ap, ap₂, _∙_}
@@ -7,7 +7,7 @@ use lib.ListN.{length}
 use borrow.Author.Tests.{le-ltb, lt-ltb, le-leb}
 use Rattle.wire.specs.Bytes.{be16}
 use Rattle.wire.specs.Laws.{pick-yes, pick-no}
-use Rattle.answer.specs.declared.Refusal.the-variants.{Incomplete, LengthTooShort}
+use Rattle.answer.specs.declared.Refusal.the-variants.{Incomplete, LengthTooShort, DeadContinuation}
 use Rattle.answer.specs.declared.Refused.{Refused}
 use Rattle.dss_head.specs.Heads.{headAt}
 use Rattle.dss_head.specs.declared.DssHeader.{DssHeader}
@@ -30,19 +30,19 @@ module _ (s : List ℕ) where
   short-walk : (w : Walk) → walkedOf s 0 w ≡ Short → aloneOf (aloneWalk s 0 w) ≡ NotAlone (record { why = Incomplete; place = 0 })
   short-walk (whole gs) e = let z : _≡_ {A = ℕ} 0 1 = cc in absurd (omega arith)
   short-walk short e = refl
-  short-walk (dead q) e = refl
+  short-walk (dead q) e = let z : _≡_ {A = ℕ} 0 1 = cc in absurd (omega arith)
 
-  dead-walk : (w : Walk) (d : ℕ) → walkedOf s 0 w ≡ DeadAt d → aloneOf (aloneWalk s 0 w) ≡ NotAlone (record { why = Incomplete; place = 0 })
+  dead-walk : (w : Walk) (d : ℕ) → walkedOf s 0 w ≡ DeadAt d → aloneOf (aloneWalk s 0 w) ≡ NotAlone (record { why = DeadContinuation; place = d })
   dead-walk (whole gs) d e = let z : _≡_ {A = ℕ} 0 1 = cc in absurd (omega arith)
-  dead-walk short d e = refl
-  dead-walk (dead q) d e = refl
+  dead-walk short d e = let z : _≡_ {A = ℕ} 0 1 = cc in absurd (omega arith)
+  dead-walk (dead q) d e = let z : q ≡ d = cc in ap (λ (x : ℕ). NotAlone (record { why = DeadContinuation; place = x })) z
 
-  -- 1, whatever the reason
+  -- 1, and 16
   pub alone-short : walkedAt Reader s 0 ≡ Short → aloneOf (aloneAt Reader s 0) ≡ NotAlone (record { why = Incomplete; place = 0 })
   unfolding walkedAt
   alone-short e = ap aloneOf alone-as ∙ short-walk (frameWalk Reader s 0) e
 
-  pub alone-dead : (d : ℕ) → walkedAt Reader s 0 ≡ DeadAt d → aloneOf (aloneAt Reader s 0) ≡ NotAlone (record { why = Incomplete; place = 0 })
+  pub alone-dead : (d : ℕ) → walkedAt Reader s 0 ≡ DeadAt d → aloneOf (aloneAt Reader s 0) ≡ NotAlone (record { why = DeadContinuation; place = d })
   unfolding walkedAt
   alone-dead d e = ap aloneOf alone-as ∙ dead-walk (frameWalk Reader s 0) d e
 

@@ -28,7 +28,7 @@ module _ (s : List ℕ) where
       go (frame f) i q = record { one = f; read = i; ends = cc; many = cc }
       go (refused r) i q = never q
 
-  -- 1, 2, 3, 7
+  -- 1 or 16, 2, 3, 7
   pub request-refused : (r : Refused) → aloneOf (aloneAt Reader s 0) ≡ NotAlone r → (cp : ℕ) (new : List ℕ) → requestOf s cp new ≡ refusesIt r
   unfolding requestOf
   request-refused r q cp new = go (aloneAt Reader s 0) q

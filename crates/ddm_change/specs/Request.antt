@@ -75,7 +75,7 @@ objectOf s cp new gs (object o) =
     (pick (eqb (be16 (payloadOf s gs) 0) 0x8004) (refusesIt (unsound (placeIn 0 gs 0)))
     (builtOf s gs o (changeOf (o .content) cp new))))
 
--- by the reader's rules: 1, 2, 3, 7
+-- by the reader's rules: 1 or 16, 2, 3, 7
 abbrev pub readOf : List ℕ → ℕ → List ℕ → Read → Changed
 readOf s cp new (refused r) = refusesIt r
 readOf s cp new (frame f) = objectOf s cp new (f .segments) (parsed (payloadOf s (f .segments)) (placeIn 0 (f .segments) 0))

@@ -50,7 +50,7 @@ pub(crate) fn alone_head(frame: &[u8], end: usize, segments: usize, payload_len:
     }
 }
 
-// The one frame of a request, nothing absorbed: 1, 2, 3, 7.
+// The one frame of a request, nothing absorbed: 1 or 16, 2, 3, 7.
 pub(crate) fn alone(frame: &[u8]) -> Alone
     ensures { λ r. ⌜ r ≡ aloneOf (aloneAt asReader (now (frame .entry)) 0) ⌝ }
 {
@@ -59,9 +59,9 @@ pub(crate) fn alone(frame: &[u8]) -> Alone
             let why = Refusal::Incomplete;
             return Alone::Refused(Refused { why, place: 0 });
         }
-        Walked::Dead(_) => {
-            let why = Refusal::Incomplete;
-            return Alone::Refused(Refused { why, place: 0 });
+        Walked::Dead(place) => {
+            let why = Refusal::DeadContinuation;
+            return Alone::Refused(Refused { why, place });
         }
         Walked::Whole {
             end,

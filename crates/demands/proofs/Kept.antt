@@ -5,6 +5,7 @@
 -- calls that write, the widest is taken: the contracts of the writer's others are the same record, at a type and flags of their own.
 use Prim.Native.Nat.{ℕ, _*_, _≤_}
 use mathlib.Core.Path.{_≡_, refl, subst}
+use mathlib.Core.Logic.{_⊎_}
 use mathlib.Core.Bool.{Bool, true}
 use mathlib.Core.List.{List, _++_}
 use lib.ListN.{length, getD, take}
@@ -24,7 +25,7 @@ use Rattle.dss_head.specs.Heads.{typeAt, bit}
 use Rattle.dss_head.specs.declared.DssType.{DssType}
 use Rattle.dss_head.specs.declared.TypeFound.the-variants.{Is}
 use Rattle.dss_frame.specs.Written.{Sent, written}
-use Rattle.dss_frame.specs.Reading.{readAt}
+use Rattle.dss_frame.specs.Reading.{readAt, positionAfter}
 use Rattle.dss_frame.specs.declared.DssFrame.{DssFrame}
 use Rattle.dss_frame.specs.declared.Rules.the-variants.{Reader}
 use Rattle.dss_writer.specs.Writer.{sent}
@@ -32,7 +33,7 @@ use Rattle.dss_writer.specs.declared.DssWriter.{DssWriter}
 use Rattle.dss_writer.specs.declared.Wrote.{Wrote}
 use Rattle.dss_writer.specs.declared.Wrote.the-variants.{Done, Refused as NotWritten}
 use Rattle.dss_writer.proofs.DssWriter.write_dss_full.Reads as write-dss-full
-use Rattle.dss_reader.specs.Reader.{standsAt, frameEnd, isEnd}
+use Rattle.dss_reader.specs.Reader.{standsAt, leftAt, frameEnd, isEnd}
 use Rattle.dss_reader.specs.declared.DssReader.{DssReader}
 use Rattle.dss_reader.specs.declared.FrameRead.{FrameRead}
 use Rattle.dss_reader.specs.declared.FrameRead.the-variants.{Frame as Hands, Refused as NotRead}
@@ -49,6 +50,7 @@ use Rattle.gateway_writer.specs.WriterWords.{writerOf, frameOf}
 use Rattle.gateway_writer.proofs.lattrugone_write_dss_full.Reads as lattrugone-write-dss-full
 use Rattle.gateway_reader.specs.ReaderWords.{ReadsFrame}
 use Rattle.gateway_reader.proofs.lattrugone_has_frame.Reads as lattrugone-has-frame
+use Rattle.gateway_reader.proofs.lattrugone_frame_end.Reads as lattrugone-frame-end
 use Rattle.gateway_reader.proofs.lattrugone_next_frame.Reads as lattrugone-next-frame
 use Rattle.gateway_frames.specs.FramesWords.{ReadsAllFrames}
 use Rattle.gateway_frames.proofs.lattrugone_read_all_frames.Reads as lattrugone-read-all-frames
@@ -59,17 +61,20 @@ use Rattle.demands.specs.Demands.{Sendable, Unreadable, Item, run}
 use Rattle.demands.specs.AllFrames.{AllAlone, joined}
 use Rattle.demands.specs.Layouts.{structureOf, WritesLayout, ReadsLayout, WaitsBehindFull, RefusesFive, LayoutFixes}
 use Rattle.demands.specs.Longer.{TakenStay, WaitingLosesNothing}
+use Rattle.demands.specs.Mending.{StopsWaiting, decided}
 use Rattle.demands.proofs.WrittenLayout.{writes-layout}
 use Rattle.demands.proofs.LayoutReads.{reads-layout, waits-behind-full, refuses-five}
 use Rattle.demands.proofs.FaithfulLayout.{layout-fixes}
 use Rattle.demands.proofs.LayoutCalls.{write-dss-laid, next-frame-laid, layout-not-whole, layout-five}
-use Rattle.demands.proofs.LongerTaken.{reader-taken-stay, reader-loses-nothing}
-use Rattle.demands.proofs.LongerCalls.{calls-same, has-whole, words-same}
+use Rattle.demands.proofs.LongerTaken.{reader-taken-stay, reader-decided-stay, reader-loses-nothing}
+use Rattle.demands.proofs.LongerCalls.{calls-same, has-whole, end-decided, words-same}
+use Rattle.demands.proofs.Mending.{stops-waiting}
+use Rattle.demands.proofs.DeadCalls.{calls-dead, words-dead}
 use Rattle.demands.proofs.ReaderKeeps.{payloads, AllBack}
 use Rattle.demands.proofs.ReaderClauses.{read-all-frames-back}
 use Rattle.demands.proofs.SalvageKeeps.{allBytes, Recovered}
 use Rattle.demands.proofs.SalvageClauses.{salvage-recovers, salvage-refuses}
-use Rattle.demands.proofs.KeptMeaning.{behind, ReadAgain, NotReadAgain, ReadAgainInWords, NotReadAgainInWords, AllBackInWords, RecoveredInWords, RefusedInWords, StructureBack, StructureBackInWords, LaidInWords, notWhole, typeFive, RefusedAs}
+use Rattle.demands.proofs.KeptMeaning.{behind, ReadAgain, NotReadAgain, ReadAgainInWords, NotReadAgainInWords, AllBackInWords, RecoveredInWords, RefusedInWords, StructureBack, StructureBackInWords, LaidInWords, notYet, typeFive, RefusedAs}
 use Rattle.demands.proofs.KeptFrame.{read-again, not-read-again, read-again-words, not-read-again-words}
 use Rattle.demands.proofs.KeptLayouts.{laid-in-words, structure-back, full-last, type-five}
 use Rattle.demands.proofs.KeptRows.{frames-back-words, recovers-words}
@@ -84,10 +89,10 @@ module _ (κs : Lfts 2) (room : RefT (List ℕ)) (why : Refused) (after : List �
       → after ≡ room .now
   write-refused w t chained same payload p = writes-kept w (sent (w .«correlation_id») t chained same (payload .now)) (room .now) why after p
 
-  -- the reader is left at the refusal's place
+  -- the reader is left at the refusal's place, but with 16 where it was
   pub read-refused : (reader left : DssReader) (s : RefT (List ℕ))
       → next-frame.Post κs (reader, (s, (room, tt))) (NotRead why left) (reader, (s, (at-last room after, tt)))
-      → (after ≡ room .now) × (left ≡ standsAt (why .place))
+      → (after ≡ room .now) × (left ≡ leftAt (reader .position) why)
   read-refused reader left s p = reads-kept (s .now) (reader .position) (room .now) why left after p
 
 -- A function over a row of records has no `Post`. Its own clause is named, and in any model of the logic it entails the fact.
@@ -103,7 +108,8 @@ module _ {M : Type 1} (𝓤 : URA M) (H : Heap 𝓤) (A : Atoms 𝓤) (mem : Mem
       (fact 𝓤 ((numberOf (why .why) ≡ 9) × (why .place ≡ 0) × (room-after ≡ room .now) × (row-after ≡ row .now)))
   salvage-refused row row-after = salvage-refuses 𝓤 H A mem routines κs s room row room-after row-after why
 
--- The exported functions: any number but 0 is a refusal's. Its place is also the position that it leaves.
+-- The exported functions: any number but 0 is a refusal's. Its place is also the position that it leaves, but with 16, which leaves it
+-- as it was.
 module _ (words : RefT (List ℕ)) (number : ℕ) (answer : List ℕ) (other : number ≡ 0 → ⊥) (room : RefT (List ℕ)) (room-after : List ℕ) where
   pub exported-write-refused : (κs : Lfts 3) (id fill type flags : ℕ) (payload : RefT (List ℕ))
       → lattrugone-write-dss-full.Post κs (id, (fill, (type, (flags, (payload, (room, (words, tt))))))) number (id, (fill, (type, (flags, (payload, (at-last room room-after, (at-last words answer, tt)))))))
@@ -225,7 +231,7 @@ module _ (κs : Lfts 2) (b room : RefT (List ℕ)) (r : FrameRead) (after : List
   pub laid-read : (FullLast l → ⊥) → (w .type ≡ 5 → ⊥) → length (w .payload) ≤ length (room .now) → StructureBack w (b .now) (room .now) r after
   laid-read n ne h = next-frame-laid κs (standsAt 0) b room r after w l refl n ne h p
 
-  pub laid-not-whole : FullLast l → (r ≡ NotRead (notWhole 0) (standsAt 0)) × (after ≡ room .now)
+  pub laid-not-whole : FullLast l → (r ≡ NotRead (notYet 0) (standsAt 0)) × (after ≡ room .now)
   laid-not-whole n = layout-not-whole w (b .now) l (room .now) r after p n
 
   pub laid-five : (FullLast l → ⊥) → w .type ≡ 5 → (r ≡ NotRead (typeFive 0) (standsAt 0)) × (after ≡ room .now)
@@ -243,7 +249,7 @@ module _ (κs : Lfts 3) (b room words : RefT (List ℕ)) (number : ℕ) (after a
   pub exported-laid-read : (FullLast l → ⊥) → (w .type ≡ 5 → ⊥) → length (w .payload) ≤ length (room .now) → StructureBackInWords w (b .now) (room .now) number answer after
   exported-laid-read n ne h = structure-back w (b .now) l (room .now) (words .now) eight number after answer p n ne h
 
-  pub exported-laid-not-whole : FullLast l → RefusedAs (notWhole 0) (room .now) number answer after
+  pub exported-laid-not-whole : FullLast l → RefusedAs (notYet 0) (room .now) number answer after
   exported-laid-not-whole n = full-last w (b .now) l (room .now) (words .now) eight number after answer p n
 
   pub exported-laid-five : (FullLast l → ⊥) → w .type ≡ 5 → RefusedAs (typeFive 0) (room .now) number answer after
@@ -276,9 +282,51 @@ pub exported-taken-again : (κs κs′ : Lfts 3) (κs″ : Lfts 1) (at : ℕ) (s
     → lattrugone-next-frame.Post κs′ (longer, (at, (again, (words′, tt)))) number (longer, (at, (at-last again after′, (at-last words′ answer′, tt))))
     → (number ≡ 0) × (take 8 answer′ ≡ take 8 answer) × (after′ ≡ after)
 exported-taken-again κs κs′ κs″ at s longer room again words words′ more after answer number after′ answer′ e k h h′ a c b =
-    words-same (s .now) more at (room .now) (words .now) (words′ .now) h h′ after answer number after′ answer′ a (has-whole (s .now) (getD (take 8 answer) 1 0) c)
+    words-same (λ l p. isEnd (frameEnd l p)) reader-taken-stay (s .now) more at (room .now) (words .now) (words′ .now) h h′ after answer number after′ answer′ a (has-whole (s .now) (getD (take 8 answer) 1 0) c)
     (subst (λ (l : List ℕ). ReadsFrame l at (room .now) (words′ .now) number after′ answer′) e
     (subst (λ (l : List ℕ). ReadsFrame (longer .now) at l (words′ .now) number after′ answer′) k b))
+
+-- A frame behind it that is never whole settles it too: then `frame_end` answers 16, and not 0.
+pub decided-stay : TakenStay (readAt Reader) (λ s p. decided (frameEnd s p))
+decided-stay = reader-decided-stay
+
+-- so of the exported functions, where `frame_end` is asked at that position, whatever words it is lent
+pub exported-taken-by-end : (κs κs′ : Lfts 3) (κs″ : Lfts 2) (at : ℕ) (s longer room again words words′ end-words : RefT (List ℕ)) (more after answer end-answer : List ℕ) (end number : ℕ) (after′ answer′ : List ℕ)
+    → longer .now ≡ s .now ++ more → again .now ≡ room .now → 8 ≤ length (words .now) → 8 ≤ length (words′ .now)
+    → lattrugone-next-frame.Post κs (s, (at, (room, (words, tt)))) 0 (s, (at, (at-last room after, (at-last words answer, tt))))
+    → lattrugone-frame-end.Post κs″ (s, (getD (take 8 answer) 1 0, (end-words, tt))) end (s, (getD (take 8 answer) 1 0, (at-last end-words end-answer, tt)))
+    → (end ≡ 0) ⊎ (end ≡ 16)
+    → lattrugone-next-frame.Post κs′ (longer, (at, (again, (words′, tt)))) number (longer, (at, (at-last again after′, (at-last words′ answer′, tt))))
+    → (number ≡ 0) × (take 8 answer′ ≡ take 8 answer) × (after′ ≡ after)
+exported-taken-by-end κs κs′ κs″ at s longer room again words words′ end-words more after answer end-answer end number after′ answer′ e k h h′ a c d b =
+    words-same (λ l p. decided (frameEnd l p)) reader-decided-stay (s .now) more at (room .now) (words .now) (words′ .now) h h′ after answer number after′ answer′ a
+    (end-decided (s .now) (getD (take 8 answer) 1 0) (end-words .now) end end-answer c d)
+    (subst (λ (l : List ℕ). ReadsFrame l at (room .now) (words′ .now) number after′ answer′) e
+    (subst (λ (l : List ℕ). ReadsFrame (longer .now) at l (words′ .now) number after′ answer′) k b))
+
+-- ---- W-203, "Stop waiting for what can't come": 16 is exactly what no further bytes can mend.
+
+pub waiting-stops : StopsWaiting Reader (readAt Reader) (λ s p. positionAfter p (readAt Reader s p))
+waiting-stops = stops-waiting Reader
+
+-- so of the calls: after 16 the reader stands where it stood, and the call made again over a run with more bytes, into any room, is
+-- refused alike and leaves that room as it is
+pub dead-again : (κs κs′ : Lfts 2) (reader left : DssReader) (s longer room again : RefT (List ℕ)) (more : List ℕ) (why : Refused) (r : FrameRead) (after after′ : List ℕ)
+    → longer .now ≡ s .now ++ more → numberOf (why .why) ≡ 16
+    → next-frame.Post κs (reader, (s, (room, tt))) (NotRead why left) (reader, (s, (at-last room after, tt)))
+    → next-frame.Post κs′ (reader, (longer, (again, tt))) r (reader, (longer, (at-last again after′, tt)))
+    → (left ≡ standsAt (reader .position)) × (r ≡ NotRead why left) × (after′ ≡ again .now)
+dead-again κs κs′ reader left s longer room again more why r after after′ e k a b = calls-dead κs κs′ reader left s longer room again more why r after after′ e k a b
+
+-- and of the exported function, lent eight words
+pub exported-dead-again : (κs κs′ : Lfts 3) (at : ℕ) (s longer room again words words′ : RefT (List ℕ)) (more after answer : List ℕ) (number : ℕ) (after′ answer′ : List ℕ)
+    → longer .now ≡ s .now ++ more → 8 ≤ length (words .now) → 8 ≤ length (words′ .now)
+    → lattrugone-next-frame.Post κs (s, (at, (room, (words, tt)))) 16 (s, (at, (at-last room after, (at-last words answer, tt))))
+    → lattrugone-next-frame.Post κs′ (longer, (at, (again, (words′, tt)))) number (longer, (at, (at-last again after′, (at-last words′ answer′, tt))))
+    → (number ≡ 16) × (take 8 answer′ ≡ take 8 answer) × (after′ ≡ again .now)
+exported-dead-again κs κs′ at s longer room again words words′ more after answer number after′ answer′ e h h′ a b =
+    words-dead (s .now) more at (room .now) (again .now) (words .now) (words′ .now) h h′ after answer number after′ answer′ a
+    (subst (λ (l : List ℕ). ReadsFrame l at (again .now) (words′ .now) number after′ answer′) e b)
 
 -- ---- Demand 3: "Take any run of written frames, none of those sizes, each able to stand by itself as the specification says. In any of
 -- them spoil the magic byte or the type so that the head is refused; change its flags, correlation and payload bytes too, but no length

@@ -50,11 +50,11 @@ use Rattle.demands.proofs.SeveralRun.{alike}
 use Rattle.demands.proofs.ExampleRun.{three, three-run, three-sizes}
 use Rattle.demands.proofs.WrittenLayout.{allowed-sent}
 use Rattle.demands.proofs.LayoutExamples as layouts
-use Rattle.demands.proofs.KeptMeaning.{notWhole, ReadAgain, NotReadAgain, ReadAgainInWords, NotReadAgainInWords, AllBackInWords, RecoveredInWords, RefusedInWords, StructureBack, StructureBackInWords, LaidInWords, typeFive, RefusedAs}
+use Rattle.demands.proofs.KeptMeaning.{notYet, ReadAgain, NotReadAgain, ReadAgainInWords, NotReadAgainInWords, AllBackInWords, RecoveredInWords, RefusedInWords, StructureBack, StructureBackInWords, LaidInWords, typeFive, RefusedAs}
 use Rattle.demands.proofs.Kept.{write-refused, read-refused, Calls, read-back, not-whole, ExportedCalls, exported-read-back, exported-not-whole, exported-all-read-back, exported-salvaged-back, exported-write-refused, exported-read-refused, exported-all-read-refused, exported-salvage-refused, laid-out, laid-read, laid-not-whole, laid-five, exported-laid-out, exported-laid-read, exported-laid-not-whole, exported-laid-five, taken-again, exported-taken-again}
 
 -- bytes or words that are lent
-abbrev lending : List ℕ → RefT (List ℕ)
+abbrev pub lending : List ℕ → RefT (List ℕ)
 lending l = record { ptr = (0, 0); name = 0; now = l }
 
 -- ---- one frame, from the fill mark 2 on
@@ -153,7 +153,7 @@ full-lent : written full ≡ take (0 + length (written full)) (written full)
 unfolding written chunks chunksFuel
 full-lent = refl
 
-full-read : readAt Reader (written full) 0 ≡ refused (notWhole 0)
+full-read : readAt Reader (written full) 0 ≡ refused (notYet 0)
 full-read = ReadBack.not-whole full full-sendable full-unreadable
 
 full-wrote : wrote (fresh 7) (length zeros) (length (written full)) ≡ Done (record { «correlation_id» = 7; fill = 65534 })
@@ -162,7 +162,7 @@ full-wrote = refl
 
 full-calls : (κs κs′ : Lfts 2)
     → Calls κs κs′ (fresh 7) Request false false (lending big) (lending zeros) (Done (record { «correlation_id» = 7; fill = 65534 })) (written full)
-    (lending (written full)) (lending []) (NotRead (notWhole 0) (standsAt 0)) []
+    (lending (written full)) (lending []) (NotRead (notYet 0) (standsAt 0)) []
 full-calls κs κs′ =
     record {
       sendable = full-sendable;
@@ -172,10 +172,10 @@ full-calls κs κs′ =
       reads = record { answers = sym (ap (given (written full) 0 0) full-read); room-is = sym (ap (roomRead (written full) []) full-read) };
     }
 
-pub full-not-whole : (κs κs′ : Lfts 2) → NotReadAgain (fresh 7) full (Done (record { «correlation_id» = 7; fill = 65534 })) [] (NotRead (notWhole 0) (standsAt 0)) []
+pub full-not-whole : (κs κs′ : Lfts 2) → NotReadAgain (fresh 7) full (Done (record { «correlation_id» = 7; fill = 65534 })) [] (NotRead (notYet 0) (standsAt 0)) []
 full-not-whole κs κs′ =
     not-whole κs κs′ (fresh 7) Request false false (lending big) (lending zeros) (Done (record { «correlation_id» = 7; fill = 65534 })) (written full)
-    (lending (written full)) (lending []) (NotRead (notWhole 0) (standsAt 0)) [] (full-calls κs κs′) full-unreadable
+    (lending (written full)) (lending []) (NotRead (notYet 0) (standsAt 0)) [] (full-calls κs κs′) full-unreadable
 
 -- the exported functions: the writer answers 0, and the reader 1
 full-exported : (κs κs′ : Lfts 3)
@@ -306,12 +306,12 @@ two-full-cut = layouts.filled 32765 (omega arith)
 two-full-last : FullLast (two-full-cut .laid)
 two-full-last = two-full-cut .full (omega (arith, layouts.filling-length 32765))
 
-pub two-full-not-whole : (κs : Lfts 2) → (_≡_ {A = FrameRead} (NotRead (notWhole 0) (standsAt 0)) (NotRead (notWhole 0) (standsAt 0))) × (_≡_ {A = List ℕ} [] [])
+pub two-full-not-whole : (κs : Lfts 2) → (_≡_ {A = FrameRead} (NotRead (notYet 0) (standsAt 0)) (NotRead (notYet 0) (standsAt 0))) × (_≡_ {A = List ℕ} [] [])
 two-full-not-whole κs =
-    laid-not-whole κs (lending two-full) (lending []) (NotRead (notWhole 0) (standsAt 0)) [] _ (two-full-cut .laid)
+    laid-not-whole κs (lending two-full) (lending []) (NotRead (notYet 0) (standsAt 0)) [] _ (two-full-cut .laid)
     (record { answers = sym (ap (given two-full 0 0) layouts.full-waits); room-is = sym (ap (roomRead two-full []) layouts.full-waits) }) two-full-last
 
-pub two-full-in-words : (κs : Lfts 3) → RefusedAs (notWhole 0) [] 1 (1 ∷ replicate 7 0) []
+pub two-full-in-words : (κs : Lfts 3) → RefusedAs (notYet 0) [] 1 (1 ∷ replicate 7 0) []
 unfolding splice laid
 two-full-in-words κs =
     exported-laid-not-whole κs (lending two-full) (lending []) (lending (replicate 8 9)) 1 [] (1 ∷ replicate 7 0) _ (two-full-cut .laid) (omega arith)

@@ -38,7 +38,7 @@ use Rattle.gateway_writer.specs.WriterWords.{writerOf, wroteWords, wroteTyped, 
 use Rattle.gateway_reader.specs.ReaderWords.{frameWords, ReadsFrame}
 use Rattle.demands.specs.Demands.{Sendable, Unreadable, Gives}
 use Rattle.demands.proofs.WrittenFrames.{framed-six, sentAt, read-written, gives-written}
-use Rattle.demands.proofs.KeptMeaning.{IsFrame, InWords, behind, Written, ReadAgain, notWhole, NotReadAgain, ReadAgainInWords, NotReadAgainInWords}
+use Rattle.demands.proofs.KeptMeaning.{IsFrame, InWords, behind, Written, ReadAgain, notYet, NotReadAgain, ReadAgainInWords, NotReadAgainInWords}
 
 -- ---- a frame that is handed out
 
@@ -86,7 +86,7 @@ module _ (f : Sent) (v : Sendable f) (s : List ℕ) (p : ℕ) (d : drop p s ≡ 
   gives-last = gives-written f s [] p stands
 
   -- or 1
-  short-last : Unreadable f → readAt Reader s p ≡ refused (notWhole p)
+  short-last : Unreadable f → readAt Reader s p ≡ refused (notYet p)
   unfolding readAt
   short-last u =
       pick-yes _ _ (le-leb p (length s) (omega (arith, here-length s (written f) [] p stands, framed-six (framed-written f))))
@@ -138,7 +138,7 @@ module _ (w : DssWriter) (f : Sent) (v : Sendable f) (room laid-down run into : 
 
   pub not-read-again : Unreadable f → NotReadAgain w f x into r after
   not-read-again u =
-      let s : readAt Reader run (w .fill) ≡ refused (notWhole (w .fill)) = short-last f v run (w .fill) at-mark u in
+      let s : readAt Reader run (w .fill) ≡ refused (notYet (w .fill)) = short-last f v run (w .fill) at-mark u in
       record {
         wrote-is = p .answers ∙ wrote-is w f (length room) h;
         read-is = q .answers ∙ ap (given run (w .fill) (length into)) s;
@@ -189,8 +189,8 @@ module _ (found : TypeFound) (t : DssType) (ft : found ≡ Is t) (correlation fi
 
   pub not-read-again-words : Unreadable f → NotReadAgainInWords f fill n answer into n′ answer′ after
   not-read-again-words u =
-      let s : readAt Reader run fill ≡ refused (notWhole fill) = short-last f v run fill at-mark′ u in
-      let a : Answered (refusalWords (notWhole fill)) words′ n′ answer′ =
+      let s : readAt Reader run fill ≡ refused (notYet fill) = short-last f v run fill at-mark′ u in
+      let a : Answered (refusalWords (notYet fill)) words′ n′ answer′ =
       subst (λ (x : Read). Answered (frameWords (given run fill (length into) x)) words′ n′ answer′) s (q .answers) in
       record {
         wrote = wrote-answers .number-is;

@@ -33,7 +33,7 @@ use Rattle.demands.specs.Layouts.{structureOf, Says}
 use Rattle.demands.proofs.FaithfulLayout.{format-told, allowed-in}
 use Rattle.demands.proofs.WrittenLayout.{flagsIn}
 use Rattle.demands.proofs.LayoutCalls.{done-refused, same-done, between-laid, layout-back, layout-not-whole, layout-five}
-use Rattle.demands.proofs.KeptMeaning.{StructureInWords, StructureBackInWords, LaidInWords, notWhole, typeFive, RefusedAs}
+use Rattle.demands.proofs.KeptMeaning.{StructureInWords, StructureBackInWords, LaidInWords, notYet, typeFive, RefusedAs}
 use Rattle.demands.proofs.KeptFrame.{answer-says}
 
 -- ---- what was laid down
@@ -114,8 +114,8 @@ module _ (w : Structure) (b : List ℕ) (l : Dss w b) (room words : List ℕ) (k
   refused-as why x =
       let a = answers (NotRead why (standsAt 0)) (x .0) in record { number-is = a .number-is; words-say = answer-says refl k a; room-is = x .1 }
 
-  pub full-last : FullLast l → RefusedAs (notWhole 0) room number answer after
-  full-last n = refused-as (notWhole 0) (layout-not-whole w b l room r after as-call n)
+  pub full-last : FullLast l → RefusedAs (notYet 0) room number answer after
+  full-last n = refused-as (notYet 0) (layout-not-whole w b l room r after as-call n)
 
   pub type-five : (FullLast l → ⊥) → w .type ≡ 5 → RefusedAs (typeFive 0) room number answer after
   type-five n e = refused-as (typeFive 0) (layout-five w b l room r after as-call n e)

@@ -74,13 +74,13 @@ pub record ReadAgain (w : DssWriter) (f : Sent) (wrote : Wrote) (room : List ℕ
   pub room-is : after ≡ splice room 0 (f .payload)
 
 -- 1, with the place where the reading started
-abbrev pub notWhole : ℕ → Refused
-notWhole p = record { why = Incomplete; place = p }
+abbrev pub notYet : ℕ → Refused
+notYet p = record { why = Incomplete; place = p }
 
 -- "the reader says it isn't whole", and position and room are as they were
 pub record NotReadAgain (w : DssWriter) (f : Sent) (wrote : Wrote) (room : List ℕ) (r : FrameRead) (after : List ℕ) : Type 0 where
   pub wrote-is : Written w f wrote
-  pub read-is : r ≡ NotRead (notWhole (w .fill)) (standsAt (w .fill))
+  pub read-is : r ≡ NotRead (notYet (w .fill)) (standsAt (w .fill))
   pub room-is : after ≡ room
 
 -- both in words: the two numbers returned, what the words of the two calls then start with, and the room
@@ -95,7 +95,7 @@ pub record NotReadAgainInWords (f : Sent) (fill number : ℕ) (words : List ℕ)
   pub wrote : number ≡ 0
   pub wrote-says : take 8 words ≡ doneWords (f .correlation) (behind fill f) 0 0
   pub read : number′ ≡ 1
-  pub read-says : take 8 words′ ≡ refusalWords (notWhole fill)
+  pub read-says : take 8 words′ ≡ refusalWords (notYet fill)
   pub room-is : after ≡ room
 
 -- ---- the volume's layout

@@ -3,14 +3,17 @@ use Prim.Native.Nat.{ℕ, _+_, _-_, _≤_, _<_}
 use native.Mathlib.Omega.{arith}
 use mathlib.Core.Path.{_≡_, refl, sym, ap, _∙_}
 use mathlib.Core.Logic.{_⊎_, inl, inr}
-use mathlib.Core.Bool.{false}
+use mathlib.Core.Bool.{Bool, true, false}
 use mathlib.Core.List.{List}
-use lib.Dec.{leb}
+use lib.Dec.{leb, eqb}
 use lib.ListN.{length}
 use borrow.Author.Tests.{leb-true, leb-false}
-use Rattle.wire.specs.Laws.{by, pick-yes, pick-no}
+use Rattle.wire.specs.Bytes.{or}
+use Rattle.wire.specs.Laws.{by, pick-yes, pick-no, true-false}
 use Rattle.wire.specs.Splice.{laid-kept}
+use Rattle.answer.specs.Numbers.{numberOf, notWhole}
 use Rattle.answer.specs.Rooms.{noRoom, roomFor}
+use Rattle.answer.specs.declared.Refusal.{Refusal}
 use Rattle.answer.specs.declared.Refused.{Refused}
 use Rattle.answer.specs.declared.RoomFor.the-variants.{Enough}
 use Rattle.dss_head.specs.declared.DssType.{DssType}
@@ -29,7 +32,7 @@ use Rattle.dss_writer.specs.Writer.{wroteBy, Writes}
 use Rattle.dss_writer.specs.declared.DssWriter.{DssWriter}
 use Rattle.dss_writer.specs.declared.Wrote.{Wrote}
 use Rattle.dss_writer.specs.declared.Wrote.the-variants.{Done, Refused as NotWritten}
-use Rattle.dss_reader.specs.Reader.{standsAt, given, NextFrame, framesFit, givenAll, roomAll, rowAll, ReadAllFrames}
+use Rattle.dss_reader.specs.Reader.{standsAt, leftAt, given, NextFrame, framesFit, givenAll, roomAll, rowAll, ReadAllFrames}
 use Rattle.dss_reader.specs.declared.DssReader.{DssReader}
 use Rattle.dss_reader.specs.declared.FrameRead.{FrameRead}
 use Rattle.dss_reader.specs.declared.FrameRead.the-variants.{Frame as Hands, Refused as NotRead}
@@ -44,6 +47,7 @@ use Rattle.gateway_writer.specs.WriterWords.{wroteWords, wroteTyped, roomTyped,
 use Rattle.gateway_reader.specs.ReaderWords.{frameWords, ReadsFrame}
 use Rattle.gateway_frames.specs.FramesWords.{framesWords, rowWords, ReadsAllFrames}
 use Rattle.gateway_salvage.specs.SalvageWords.{salvagedWords, SalvagesInWords}
+use Rattle.demands.proofs.LongerAll.{all-final}
 use Rattle.demands.proofs.KeptMeaning.{RefusedInWords}
 use Rattle.demands.proofs.KeptFrame.{answer-says}
 
@@ -69,7 +73,7 @@ writes-kept w f room x after p =
 -- ---- reading one frame
 
 kept-reading : (s : List ℕ) (p : ℕ) (room : List ℕ) (x : Read) (y : Refused) (d : DssReader) → NotRead y d ≡ given s p (length room) x
-    → (roomRead s room x ≡ room) × (d ≡ standsAt (y .place))
+    → (roomRead s room x ≡ room) × (d ≡ leftAt p y)
 kept-reading s p room (refused r) y d e = (refl, cc)
 kept-reading s p room (frame f) y d e =
     by (leb (length (payloadOf s (f .segments))) (length room))
@@ -78,10 +82,10 @@ kept-reading s p room (frame f) y d e =
     let k : NotRead y d ≡ NotRead (noRoom p (length (payloadOf s (f .segments))) 0) (standsAt p) = e ∙ pick-no _ _ t in
     let i : y ≡ noRoom p (length (payloadOf s (f .segments))) 0 = cc in
     let j : d ≡ standsAt p = cc in
-    (laid-kept room 0 (payloadOf s (f .segments)) (omega (arith, leb-false (length (payloadOf s (f .segments))) (length room) t)), j ∙ ap (λ (q : Refused). standsAt (q .place)) (sym i)))
+    (laid-kept room 0 (payloadOf s (f .segments)) (omega (arith, leb-false (length (payloadOf s (f .segments))) (length room) t)), j ∙ ap (leftAt p) (sym i)))
 
 pub reads-kept : (s : List ℕ) (p : ℕ) (room : List ℕ) (y : Refused) (d : DssReader) (after : List ℕ) → NextFrame s p room (NotRead y d) after
-    → (after ≡ room) × (d ≡ standsAt (y .place))
+    → (after ≡ room) × (d ≡ leftAt p y)
 reads-kept s p room y d after q =
     let k = kept-reading s p room (readAt Reader s p) y d (q .answers) in
     (q .room-is ∙ k .0, k .1)
@@ -90,11 +94,11 @@ reads-kept s p room y d after q =
 
 -- a refusal is the run's, or the call's because the frames don't fit
 none-read : (s : List ℕ) (p size rows : ℕ) (x : AllRead) (y : Refused) (d : DssReader) → NoneRead y d ≡ givenAll s p size rows x
-    → (P : AllRead → Type 0) → ((r : Refused) → y ≡ r → d ≡ standsAt (r .place) → P (refusedAll r))
+    → (P : AllRead → Type 0) → ((r : Refused) → y ≡ r → d ≡ leftAt p r → P (refusedAll r))
     → ((fs : List Frame) (q : ℕ) → framesFit s fs size rows ≡ false → y .place ≡ p → d ≡ standsAt p → P (frames fs q)) → P x
 none-read s p size rows (refusedAll r) y d e P f g =
     let i : y ≡ r = cc in
-    let j : d ≡ standsAt (r .place) = cc in
+    let j : d ≡ leftAt p r = cc in
     f r i j
 none-read s p size rows (frames fs q) y d e P f g =
     by (framesFit s fs size rows)
@@ -105,10 +109,20 @@ none-read s p size rows (frames fs q) y d e P f g =
     let j : d ≡ standsAt p = cc in
     g fs q t (ap (λ (z : Refused). z .place) i) j)
 
+or-second : (a b : Bool) → or a b ≡ false → b ≡ false
+or-second true b e = absurd (true-false true refl e)
+or-second false b e = e
+
+not-dead : (w : Refusal) → notWhole w ≡ false → eqb (numberOf w) 16 ≡ false
+not-dead w e = or-second (eqb (numberOf w) 1) (eqb (numberOf w) 16) e
+
 module _ (s : List ℕ) (p : ℕ) (room : List ℕ) (y : Refused) (d : DssReader) where
-  stands-kept : (rows : ℕ) (x : AllRead) → NoneRead y d ≡ givenAll s p (length room) rows x → d ≡ standsAt (y .place)
-  stands-kept rows x e =
-      none-read s p (length room) rows x y d e (λ z. d ≡ standsAt (y .place)) (λ r i j. j ∙ ap (λ (z : Refused). standsAt (z .place)) (sym i)) (λ fs q t i j. j ∙ ap standsAt (sym i))
+  -- the refusal isn't 16, so its place is where the reader is left
+  stands-kept : (rows : ℕ) → NoneRead y d ≡ givenAll s p (length room) rows (allFrames s p) → d ≡ standsAt (y .place)
+  stands-kept rows e =
+      none-read s p (length room) rows (allFrames s p) y d e (λ z. allFrames s p ≡ z → d ≡ standsAt (y .place))
+      (λ r i j k. j ∙ ap standsAt (pick-no _ _ (not-dead (r .why) (all-final s p r k))) ∙ ap (λ (z : Refused). standsAt (z .place)) (sym i))
+      (λ fs q t i j k. j ∙ ap standsAt (sym i)) refl
 
   room-kept : (rows : ℕ) (x : AllRead) → NoneRead y d ≡ givenAll s p (length room) rows x → roomAll s room rows x ≡ room
   room-kept rows x e = none-read s p (length room) rows x y d e (λ z. roomAll s room rows z ≡ room) (λ r i j. refl) (λ fs q t i j. pick-no _ _ t)
@@ -119,7 +133,7 @@ module _ (s : List ℕ) (p : ℕ) (room : List ℕ) (y : Refused) (d : DssReader
       let e = q .answers in (
         q .room-is ∙ room-kept (length row) (allFrames s p) e,
         q .row-is ∙ none-read s p (length room) (length row) (allFrames s p) y d e (λ z. rowAll s (length room) row z ≡ row) (λ r i j. refl) (λ fs k t i j. pick-no _ _ t),
-        stands-kept (length row) (allFrames s p) e,
+        stands-kept (length row) e,
       )
 
   row-kept : (row : List ℕ) → NoneRead y d ≡ givenAll s p (length room) (places row) (allFrames s p) → rowWords s (length room) row (allFrames s p) ≡ row

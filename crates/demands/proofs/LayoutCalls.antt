@@ -35,7 +35,7 @@ use Rattle.dss_reader.specs.declared.FrameRead.the-variants.{Frame as Hands, Re
 use Rattle.dss_reader.proofs.DssReader.next_frame.Reads as next-frame
 use Rattle.layouts.specs.DssLayout.{Structure, Allowed, Dss, FullLast}
 use Rattle.demands.specs.Layouts.{structureOf}
-use Rattle.demands.proofs.KeptMeaning.{StructureBack, notWhole, typeFive}
+use Rattle.demands.proofs.KeptMeaning.{StructureBack, notYet, typeFive}
 use Rattle.demands.proofs.WrittenLayout.{writes-layout}
 use Rattle.demands.proofs.LayoutReads.{reads-layout, refuses-five, waits-behind-full}
 
@@ -107,7 +107,7 @@ module _ (w : Structure) (b : List ℕ) (l : Dss w b) (room : List ℕ) (r : Fra
       }
 
   -- the differences: 1 and 3, position and room as they were
-  pub layout-not-whole : FullLast l → (r ≡ NotRead (notWhole 0) (standsAt 0)) × (after ≡ room)
+  pub layout-not-whole : FullLast l → (r ≡ NotRead (notYet 0) (standsAt 0)) × (after ≡ room)
   layout-not-whole k = (p .answers ∙ ap (given b 0 (length room)) (waits-behind-full w b l k), p .room-is ∙ ap (roomRead b room) (waits-behind-full w b l k))
 
   pub layout-five : (FullLast l → ⊥) → w .type ≡ 5 → (r ≡ NotRead (typeFive 0) (standsAt 0)) × (after ≡ room)

@@ -21,6 +21,8 @@ pub mod LongerCalls
 pub mod LongerAll
 pub mod LongerExamples
 pub mod LongerTakenExamples
+pub mod Mending
+pub mod MendingExamples
 pub mod ReaderKeeps
 pub mod SalvageKeeps
 pub mod SalvageClauses
@@ -31,6 +33,8 @@ pub mod KeptMeaning
 pub mod KeptFrame
 pub mod KeptRows
 pub mod KeptLayouts
+pub mod DeadCalls
 pub mod Kept
 pub mod KeptExamples
+pub mod DeadExamples
 pub mod KeptRefusals

@@ -4,14 +4,14 @@ use Prim.Native.Nat.{ℕ, zero, suc, _-_, _≤_}
 use native.Mathlib.Omega.{arith}
 use mathlib.Core.Path.{_≡_, refl, sym, ap, subst, _∙_}
 use mathlib.Core.Logic.{inl, inr}
-use mathlib.Core.Bool.{Bool}
+use mathlib.Core.Bool.{Bool, false}
 use mathlib.Core.List.{List, [], _∷_, _++_, append-assoc, append-nil}
 use lib.Dec.{ltb, leb, eqb}
 use lib.ListN.{length, length-append}
 use borrow.Author.Tests.{ltb-true, ltb-false, leb-true, eqb-false, le-leb}
-use Rattle.wire.specs.Bytes.{be16}
+use Rattle.wire.specs.Bytes.{be16, or}
 use Rattle.wire.specs.Laws.{by, picked, pick-yes, true-false, be16-front}
-use Rattle.answer.specs.Numbers.{numberOf}
+use Rattle.answer.specs.Numbers.{numberOf, notWhole}
 use Rattle.answer.specs.Rooms.{outOfBounds}
 use Rattle.answer.specs.declared.Refusal.the-variants.{Incomplete, LengthTooShort}
 use Rattle.answer.specs.declared.Refused.{Refused}
@@ -21,15 +21,21 @@ use Rattle.dss_head.specs.declared.HeadFound.{HeadFound}
 use Rattle.dss_frame.specs.declared.Rules.{Rules}
 use Rattle.dss_frame.specs.Segments.{Segment, payloadOf, endOf, Walk, dead, frameWalk}
 use Rattle.dss_frame.specs.Reading.{Look, look, Read, frame, refused, Frame, startsExtended, withChained, behindFrame, absorb, absorbFuel, readHead, readWalk, readAt}
-use Rattle.demands.specs.Longer.{Unsettled, few-left, Settled, OfHead, RefusalsStay, SettledStay, Grown, goes-on, refused-behind, FramesGrow, DeadStays}
+use Rattle.demands.specs.Longer.{Unsettled, few-left, Settled, OfHead, Final, RefusalsStay, SettledStay, Grown, goes-on, refused-behind, FramesGrow, DeadStays}
 use Rattle.dss_laws.specs.Ends.{end-snoc, payload-append}
 use Rattle.dss_laws.specs.Looks.{Taken, absorb-step}
 use Rattle.demands.proofs.LongerRuns.{picks, SameBytes, same-snoc, head-longer, HeadSays, finds, refuses-head, head-says, walk-few, Stays, stays-whole, stays-dead, was-short, frame-stays}
 use Rattle.demands.proofs.LongerLooks.{Looks, finishes, takes, stops, unsettled, look-longer}
 
+-- such a refusal says nothing of a frame that isn't whole
+pub head-refuses : (r : Refused) → OfHead r → notWhole (r .why) ≡ false
+head-refuses r (inl e) = ap (λ (n : ℕ). or (eqb n 1) (eqb n 16)) e
+head-refuses r (inr (inl e)) = ap (λ (n : ℕ). or (eqb n 1) (eqb n 16)) e
+head-refuses r (inr (inr e)) = ap (λ (n : ℕ). or (eqb n 1) (eqb n 16)) e
+
 -- ---- absorbing goes on from where it is
 
-data On (p : ℕ) (h : DssHeader) (gs : List Segment) : Read → Type 0 where
+pub data On (p : ℕ) (h : DssHeader) (gs : List Segment) : Read → Type 0 where
   on-frame : (c : Bool) (more : List Segment) → On p h gs (frame (record { head = withChained h c; segments = gs ++ more }))
   on-refused : (r : Refused) → OfHead r → endOf p gs ≤ r .place → On p h gs (refused r)
 
@@ -42,7 +48,7 @@ on-more p h gs g c l x (on-frame d more) =
 on-more p h gs g c l x (on-refused r n k) = on-refused r n (omega (arith, end-snoc p gs g))
 
 -- a look's own run is a longer one with nothing behind
-absorb-on : (k : ℕ) (rules : Rules) (s : List ℕ) (p : ℕ) (h : DssHeader) (gs : List Segment) → On p h gs (absorbFuel k rules s p h gs)
+pub absorb-on : (k : ℕ) (rules : Rules) (s : List ℕ) (p : ℕ) (h : DssHeader) (gs : List Segment) → On p h gs (absorbFuel k rules s p h gs)
 unfolding absorbFuel
 absorb-on zero rules s p h gs = on-here p h gs
 absorb-on (suc k) rules s p h gs =
@@ -67,9 +73,9 @@ absorb-grown rules s t p h gs e = grown s t p h gs e _ (absorb-on (length (s ++ 
 
 -- ---- what becomes of an answer
 
--- a refusal of a head stays, a frame stays, or it is unsettled and absorbing goes on behind it; and 1 may come to anything
+-- a refusal other than 1 stays, a frame stays, or it is unsettled and absorbing goes on behind it; and 1 may come to anything
 pub data Becomes (rules : Rules) (s t : List ℕ) (p : ℕ) : Read → Read → Type 0 where
-  same-refusal : (r : Refused) → OfHead r → Becomes rules s t p (refused r) (refused r)
+  same-refusal : (r : Refused) → Final r → Becomes rules s t p (refused r) (refused r)
   same-frame : (f : Frame) → SameBytes s t (f .segments) → Becomes rules s t p (frame f) (frame f)
   open-frame : (f : Frame) (x : Read) → (be16 s p ≡ 0xFFFF → ⊥) → Unsettled s (f .head .«dss_type») (endOf p (f .segments)) → SameBytes s t (f .segments)
       → x ≡ absorb rules (s ++ t) p (f .head) (f .segments) → Becomes rules s t p (frame f) x
@@ -93,18 +99,18 @@ absorb-becomes (suc k) rules s t p h gs ne l e =
         → Becomes rules s t p (behindFrame h gs l₁ (λ h′ gs′. absorbFuel k rules s p h′ gs′)) (absorb rules (s ++ t) p h gs)
     by-look l₁ l₂ finishes step go = subst (Becomes rules s t p _) (sym step) (same-frame (record { head = h; segments = gs }) e)
     by-look l₁ l₂ (takes g c w) step go = subst (Becomes rules s t p _) (sym step) (go g c w)
-    by-look l₁ l₂ (stops r n k) step go = subst (Becomes rules s t p _) (sym step) (same-refusal r n)
+    by-look l₁ l₂ (stops r n k) step go = subst (Becomes rules s t p _) (sym step) (same-refusal r (inr n))
     by-look l₁ l₂ (unsettled u x) step go = open-frame (record { head = h; segments = gs }) _ ne u e refl
 
 head-becomes : (rules : Rules) (s t : List ℕ) (p : ℕ) (gs : List Segment) (x : HeadFound) → 6 ≤ length s - p → SameBytes s t gs → HeadSays p x
     → Becomes rules s t p (readHead rules s p gs x) (readHead rules (s ++ t) p gs x)
 unfolding absorb
-head-becomes rules s t p gs x l e (refuses-head r n k) = same-refusal r n
+head-becomes rules s t p gs x l e (refuses-head r n k) = same-refusal r (inr n)
 head-becomes rules s t p gs x l e (finds h) =
     let raw : be16 (s ++ t) p ≡ be16 s p = be16-front s t p (omega arith) in
     picks (Becomes rules s t p) (ltb (be16 s p) 6) (ltb (be16 (s ++ t) p) 6) (ap (λ (n : ℕ). ltb n 6) (sym raw))
     (λ e₁. subst (λ (n : ℕ). Becomes rules s t p (refused (record { why = LengthTooShort (be16 s p); place = p })) (refused (record { why = LengthTooShort n; place = p }))) (sym raw)
-    (same-refusal _ (inr (inr refl))))
+    (same-refusal _ (inr (inr (inr refl)))))
     (λ e₁. picks (Becomes rules s t p) (eqb (be16 s p) 65535) (eqb (be16 (s ++ t) p) 65535) (ap (λ (n : ℕ). eqb n 65535) (sym raw))
     (λ e₂. same-frame (record { head = h; segments = gs }) e)
     (λ e₂. absorb-becomes (length s) rules s t p h gs (eqb-false _ _ e₂) (omega arith) e))
@@ -122,7 +128,7 @@ read-becomes rules s t p i =
     by-walk v w (stays-whole gs e) l =
         subst (λ (x : HeadFound). Becomes rules s t p (readHead rules s p gs (headAt s p)) (readHead rules (s ++ t) p gs x)) (sym (head-longer s t p l))
         (head-becomes rules s t p gs (headAt s p) l e (head-says s p l))
-    by-walk v w (stays-dead q) l = not-whole _
+    by-walk v w (stays-dead q) l = same-refusal _ (inl refl)
     by-walk v w (was-short x) l = not-whole _
 
 -- ---- the statements
@@ -139,8 +145,8 @@ same-framed f g e = cc
 pub refusals-stay : (rules : Rules) → RefusalsStay (readAt rules)
 refusals-stay rules s t p r i e ne = go (readAt rules s p) (readAt rules (s ++ t) p) (read-becomes rules s t p i) e
   where
-    go : (x y : Read) → Becomes rules s t p x y → x ≡ refused r → OfHead r × (y ≡ refused r)
-    go x y (same-refusal r₁ n) k = (subst OfHead (same-refused r₁ r k) n, k)
+    go : (x y : Read) → Becomes rules s t p x y → x ≡ refused r → Final r × (y ≡ refused r)
+    go x y (same-refusal r₁ n) k = (subst Final (same-refused r₁ r k) n, k)
     go x y (same-frame f b) k = absurd (frame-refused f r k)
     go x y (open-frame f z u v b w) k = absurd (frame-refused f r k)
     go x y (not-whole z) k = absurd (ne (ap (λ (w : Refused). numberOf (w .why)) (sym (same-refused _ r k))))

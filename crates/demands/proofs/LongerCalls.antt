@@ -4,14 +4,17 @@
 use Prim.Native.Nat.{ℕ, _≤_}
 use native.Mathlib.Omega.{arith}
 use mathlib.Core.Path.{_≡_, refl, sym, ap, subst, _∙_}
+use mathlib.Core.Logic.{_⊎_, inl, inr}
 use mathlib.Core.Bool.{true}
 use mathlib.Core.List.{List, _++_}
 use lib.Dec.{leb}
 use lib.ListN.{length, getD, take}
+use borrow.Author.Tests.{eq-eqb}
 use contract.Lifetimes.{Lfts}
 use denote.Ref.{RefT, at-last}
 use Rattle.wire.specs.Bytes.{pick, laid}
 use Rattle.wire.specs.Laws.{picked}
+use Rattle.answer.specs.Numbers.{numberOf}
 use Rattle.answer.specs.Rooms.{noRoom}
 use Rattle.answer.specs.declared.Refused.{Refused}
 use Rattle.dss_frame.specs.declared.DssFrame.{DssFrame}
@@ -20,8 +23,10 @@ use Rattle.dss_frame.specs.Segments.{payloadOf, endOf}
 use Rattle.dss_frame.specs.Reading.{Read, frame, refused, Frame, readAt}
 use Rattle.dss_frame.specs.Records.{recordOf}
 use Rattle.dss_take.specs.Take.{roomRead}
-use Rattle.dss_reader.specs.Reader.{standsAt, leftAt, given, NextFrame}
+use Rattle.dss_reader.specs.Reader.{standsAt, leftAt, frameEnd, given, NextFrame}
 use Rattle.dss_reader.specs.declared.DssReader.{DssReader}
+use Rattle.dss_reader.specs.declared.FrameEnd.{FrameEnd}
+use Rattle.dss_reader.specs.declared.FrameEnd.the-variants.{End, Refused as NoEnd}
 use Rattle.dss_reader.specs.declared.FrameRead.{FrameRead}
 use Rattle.dss_reader.specs.declared.FrameRead.the-variants.{Frame as Hands, Refused as NotRead}
 use Rattle.dss_reader.proofs.DssReader.has_complete_frame.Reads as has-complete-frame
@@ -29,7 +34,9 @@ use Rattle.dss_reader.proofs.DssReader.next_frame.Reads as next-frame
 use Rattle.gateway_words.specs.Words.{Answered}
 use Rattle.gateway_row.specs.RowWords.{frameAt}
 use Rattle.gateway_row.specs.RecordBack.{numbered}
-use Rattle.gateway_reader.specs.ReaderWords.{frameWords, ReadsFrame}
+use Rattle.gateway_reader.specs.ReaderWords.{endWords, frameWords, ReadsFrame}
+use Rattle.demands.specs.Longer.{Complete, TakenStay}
+use Rattle.demands.specs.Mending.{decided}
 use Rattle.demands.proofs.LongerTaken.{complete, reader-taken-stay}
 use Rattle.demands.proofs.KeptFrame.{answer-says}
 
@@ -55,16 +62,17 @@ stands-behind s p n f d next e =
     (λ k j. ap (λ (x : DssReader). x .position) (hands-next d (recordOf s 0 f) (standsAt (endOf p (f .segments))) next j))
     (λ k j. absurd (hands-refused d next (standsAt p) _ j))
 
-pub taken-same : (s t : List ℕ) (p : ℕ) (room : List ℕ) (d : DssFrame) (next : DssReader) (r r′ : FrameRead) (after after′ : List ℕ)
-    → NextFrame s p room r after → r ≡ Hands d next → complete s (next .position) ≡ true → NextFrame (s ++ t) p room r′ after′ → (r′ ≡ r) × (after′ ≡ after)
-taken-same s t p room d next r r′ after after′ a h c b = go (readAt Reader s p) refl
+-- by any test that settles what stands before
+pub taken-same : (test : Complete) → TakenStay (readAt Reader) test → (s t : List ℕ) (p : ℕ) (room : List ℕ) (d : DssFrame) (next : DssReader) (r r′ : FrameRead) (after after′ : List ℕ)
+    → NextFrame s p room r after → r ≡ Hands d next → test s (next .position) ≡ true → NextFrame (s ++ t) p room r′ after′ → (r′ ≡ r) × (after′ ≡ after)
+taken-same test stay s t p room d next r r′ after after′ a h c b = go (readAt Reader s p) refl
   where
     go : (x : Read) → readAt Reader s p ≡ x → (r′ ≡ r) × (after′ ≡ after)
-    go (refused x) e = absurd (hands-refused d next (leftAt x) x (sym (a .answers ∙ ap (given s p (length room)) e) ∙ h))
+    go (refused x) e = absurd (hands-refused d next (leftAt p x) x (sym (a .answers ∙ ap (given s p (length room)) e) ∙ h))
     go (frame f) e =
         let n : ℕ = length room in
         let q : endOf p (f .segments) ≡ next .position = stands-behind s p n f d next (sym (a .answers ∙ ap (given s p n) e) ∙ h) in
-        let z = reader-taken-stay s t p f e (subst (λ (k : ℕ). complete s k ≡ true) (sym q) c) in (
+        let z = stay s t p f e (subst (λ (k : ℕ). test s k ≡ true) (sym q) c) in (
           b .answers ∙ ap (given (s ++ t) p n) (z .0) ∙ given-same s (s ++ t) p n f (z .1) ∙ sym (a .answers ∙ ap (given s p n) e),
           b .room-is ∙ ap (roomRead (s ++ t) room) (z .0) ∙ ap (laid room 0) (z .1) ∙ sym (a .room-is ∙ ap (roomRead s room) e),
         )
@@ -78,7 +86,7 @@ pub calls-same : (κs κs′ : Lfts 2) (κs″ : Lfts 1) (reader next : DssReade
     → next-frame.Post κs′ (reader, (run′, (room′, tt))) r′ (reader, (run′, (at-last room′ after′, tt)))
     → (r′ ≡ Hands d next) × (after′ ≡ after)
 calls-same κs κs′ κs″ reader next run run′ room room′ t d r′ after after′ e k a c b =
-    taken-same (run .now) t (reader .position) (room .now) d next (Hands d next) r′ after after′ a refl (sym c)
+    taken-same complete reader-taken-stay (run .now) t (reader .position) (room .now) d next (Hands d next) r′ after after′ a refl (sym c)
     (subst (λ (s : List ℕ). NextFrame s (reader .position) (room .now) r′ after′) e (subst (λ (m : List ℕ). NextFrame (run′ .now) (reader .position) m r′ after′) k b))
 
 -- ---- for a caller in C or Rust
@@ -87,8 +95,18 @@ calls-same κs κs′ κs″ reader next run run′ room room′ t d r′ after 
 pub has-whole : (s : List ℕ) (p : ℕ) → _≡_ {A = ℕ} 1 (pick (complete s p) 1 0) → complete s p ≡ true
 has-whole s p e = picked (complete s p) (sym e) (λ k j. k) (λ k j. absurd (omega arith))
 
-module _ (s t : List ℕ) (p : ℕ) (room words words′ : List ℕ) (k : 8 ≤ length words) (k′ : 8 ≤ length words′) (after answer : List ℕ) (number : ℕ) (after′ answer′ : List ℕ)
-    (a : ReadsFrame s p room words 0 after answer) (c : complete s (getD (take 8 answer) 1 0) ≡ true) (b : ReadsFrame (s ++ t) p room words′ number after′ answer′) where
+-- the answer of `frame_end`
+pub end-decided : (s : List ℕ) (p : ℕ) (words : List ℕ) (number : ℕ) (answer : List ℕ) → Answered (endWords (frameEnd s p)) words number answer → (number ≡ 0) ⊎ (number ≡ 16)
+    → decided (frameEnd s p) ≡ true
+end-decided s p words number answer a k = go (frameEnd s p) a k
+  where
+    go : (x : FrameEnd) → Answered (endWords x) words number answer → (number ≡ 0) ⊎ (number ≡ 16) → decided x ≡ true
+    go (End e) b k = refl
+    go (NoEnd r) b (inl i) = absurd (omega (arith, numbered (r .why), b .number-is))
+    go (NoEnd r) b (inr i) = eq-eqb (numberOf (r .why)) 16 (sym (b .number-is) ∙ i)
+
+module _ (test : Complete) (stay : TakenStay (readAt Reader) test) (s t : List ℕ) (p : ℕ) (room words words′ : List ℕ) (k : 8 ≤ length words) (k′ : 8 ≤ length words′) (after answer : List ℕ) (number : ℕ) (after′ answer′ : List ℕ)
+    (a : ReadsFrame s p room words 0 after answer) (c : test s (getD (take 8 answer) 1 0) ≡ true) (b : ReadsFrame (s ++ t) p room words′ number after′ answer′) where
   first-says : (x : FrameRead) → given s p (length room) (readAt Reader s p) ≡ x → Answered (frameWords x) words 0 answer
   first-says x e = subst (λ (y : FrameRead). Answered (frameWords y) words 0 answer) e (a .answers)
 
@@ -101,7 +119,7 @@ module _ (s t : List ℕ) (p : ℕ) (room words words′ : List ℕ) (k : 8 ≤ 
           let w : List ℕ = frameAt (next .position) d in
           let said : take 8 answer ≡ w = answer-says refl k (first-says (Hands d next) e) in
           let z =
-          taken-same s t p room d next (Hands d next) (given (s ++ t) p (length room) (readAt Reader (s ++ t) p)) after after′
-          (record { answers = sym e; room-is = a .room-is }) refl (subst (λ (l : List ℕ). complete s (getD l 1 0) ≡ true) said c) (record { answers = refl; room-is = b .room-is }) in
+          taken-same test stay s t p room d next (Hands d next) (given (s ++ t) p (length room) (readAt Reader (s ++ t) p)) after after′
+          (record { answers = sym e; room-is = a .room-is }) refl (subst (λ (l : List ℕ). test s (getD l 1 0) ≡ true) said c) (record { answers = refl; room-is = b .room-is }) in
           let n : Answered w words′ number answer′ = subst (λ (y : FrameRead). Answered (frameWords y) words′ number answer′) (z .0) (b .answers) in
           (n .number-is, answer-says refl k′ n ∙ sym said, z .1)

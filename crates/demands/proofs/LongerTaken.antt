@@ -23,6 +23,7 @@ use Rattle.dss_reader.specs.Reader.{endFound, frameEnd, isEnd}
 use Rattle.dss_reader.specs.declared.FrameEnd.{FrameEnd}
 use Rattle.demands.specs.Demands.{Reader}
 use Rattle.demands.specs.Longer.{SettledStay, OfHead, Grown, goes-on, refused-behind, FramesGrow, Complete, WholeBehindSettles, TakenStay, Begins, WaitingLosesNothing, SalvageKeepsWaiting, EarlyStay}
+use Rattle.demands.specs.Mending.{decided}
 use Rattle.dss_laws.specs.Looks.{absorb-finished}
 use Rattle.demands.proofs.LongerRuns.{SameBytes}
 use Rattle.demands.proofs.LongerLooks.{unsettled-short, apart-finished}
@@ -49,6 +50,19 @@ taken-stay reads test stay settles s t p f e k = stay s t p f e (settles s p f k
 
 pub reader-taken-stay : TakenStay (readAt AsReader) complete
 reader-taken-stay = taken-stay (readAt AsReader) complete (settled-stay AsReader) whole-behind-settles
+
+-- a frame behind it that is never whole settles it too
+short-undecided : (s : List ℕ) (q : ℕ) → frameWalk AsReader s q ≡ short → decided (frameEnd s q) ≡ false
+unfolding frameEnd
+short-undecided s q k = pick-by (λ (x : FrameEnd). decided x ≡ false) (leb q (length s)) _ _ (λ e. ap (λ (w : Walk). decided (endFound q w)) k) (λ e. refl)
+
+pub decided-behind-settles : WholeBehindSettles (λ s q. decided (frameEnd s q))
+decided-behind-settles s p f e =
+    let q : ℕ = endOf p (f .segments) in
+    inr (λ u. true-false (decided (frameEnd s q)) e (short-undecided s q (unsettled-short AsReader s (f .head .«dss_type») q u)))
+
+pub reader-decided-stay : TakenStay (readAt AsReader) (λ s q. decided (frameEnd s q))
+reader-decided-stay = taken-stay (readAt AsReader) (λ s q. decided (frameEnd s q)) (settled-stay AsReader) decided-behind-settles
 
 -- ---- what waiting costs
 

@@ -4,4 +4,6 @@ pub mod Table
 pub mod Edges
 pub mod AllFrames
 pub mod Longer
+pub mod Mending
+pub mod DeadEdges
 pub mod Limits

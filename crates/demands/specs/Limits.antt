@@ -20,12 +20,12 @@ pub swallowed : answer (written (full 65526) ++ p2) (readAt Reader (written (ful
 unfolding answer full written chunks chunksFuel readAt absorb absorbFuel look payloadOf endOf frameWalk continuations walkFuel
 swallowed = refl
 
--- Two stray bytes between the segments of one frame are taken for the next segment's length. 0 and 1 are never whole; with another
--- number the frame ends where that leads, and what stands there is content: here two bytes too many, `0003`, which was a length.
+-- Two stray bytes between the segments of one frame are taken for the next segment's length. 0 and 1 are never whole, which is 16; with
+-- another number the frame ends where that leads, and what stands there is content: here two bytes too many, `0003`, which was a length.
 unfoldable pub between : ℕ → ℕ → List ℕ
 between a b = take 32767 (written (full 32762)) ++ (a ∷ b ∷ drop 32767 (written (full 32762)))
 
-pub between-segments : (answer (between 0 0) (readAt Reader (between 0 0) 0) ≡ 1 ∷ []) × (answer (between 0 5) (readAt Reader (between 0 5) 0) ≡ 0 ∷ 32764 ∷ 32772 ∷ [])
+pub between-segments : (answer (between 0 0) (readAt Reader (between 0 0) 0) ≡ 16 ∷ []) × (answer (between 0 5) (readAt Reader (between 0 5) 0) ≡ 0 ∷ 32764 ∷ 32772 ∷ [])
 unfolding between answer full written chunks chunksFuel readAt absorb absorbFuel look payloadOf endOf frameWalk continuations walkFuel
 between-segments = (refl, refl)
 

@@ -8,7 +8,7 @@ use mathlib.Core.List.{List, _++_}
 use lib.ListN.{length}
 use Rattle.wire.specs.Bytes.{be16}
 use Rattle.answer.specs.Numbers.{numberOf}
-use Rattle.answer.specs.declared.Refusal.the-variants.{Incomplete}
+use Rattle.answer.specs.declared.Refusal.the-variants.{DeadContinuation}
 use Rattle.answer.specs.declared.Refused.{Refused}
 use Rattle.dss_head.specs.Heads.{headAt}
 use Rattle.dss_head.specs.declared.DssType.{DssType}
@@ -36,10 +36,14 @@ Settled s p f = (be16 s p ≡ 0xFFFF) ⊎ (Unsettled s (f .head .«dss_type») (
 abbrev pub OfHead : Refused → Type 0
 OfHead r = (numberOf (r .why) ≡ 2) ⊎ ((numberOf (r .why) ≡ 3) ⊎ (numberOf (r .why) ≡ 7))
 
--- A refusal other than 1 is 2, 3 or 7, and stays as it is.
+-- what no further bytes can mend: such a refusal, or 16
+abbrev pub Final : Refused → Type 0
+Final r = (numberOf (r .why) ≡ 16) ⊎ OfHead r
+
+-- A refusal other than 1 is 16, 2, 3 or 7, and stays as it is.
 abbrev pub RefusalsStay : Reader → Type 0
 RefusalsStay reads =
-    (s t : List ℕ) (p : ℕ) (r : Refused) → p ≤ length s → reads s p ≡ refused r → (numberOf (r .why) ≡ 1 → ⊥) → OfHead r × (reads (s ++ t) p ≡ refused r)
+    (s t : List ℕ) (p : ℕ) (r : Refused) → p ≤ length s → reads s p ≡ refused r → (numberOf (r .why) ≡ 1 → ⊥) → Final r × (reads (s ++ t) p ≡ refused r)
 
 -- A settled frame stays as it is, and so does its payload.
 abbrev pub SettledStay : Reader → Type 0
@@ -57,9 +61,10 @@ pub data Grown (s t : List ℕ) (p : ℕ) (f : Frame) : Read → Type 0 where
 abbrev pub FramesGrow : Reader → Type 0
 FramesGrow reads = (s t : List ℕ) (p : ℕ) (f : Frame) → reads s p ≡ frame f → Grown s t p f (reads (s ++ t) p)
 
--- Of answer 1 one thing can be said: a frame with "0 and 1", which "are never whole", for a continuation length stays at it.
+-- W-203: a frame with "0 and 1", which "are never whole", for a continuation length is refused with 16 and the place of that
+-- length, and stays so.
 abbrev pub DeadStays : Rules → Reader → Type 0
-DeadStays rules reads = (s t : List ℕ) (p q : ℕ) → p ≤ length s → frameWalk rules s p ≡ dead q → reads (s ++ t) p ≡ refused (record { why = Incomplete; place = p })
+DeadStays rules reads = (s t : List ℕ) (p q : ℕ) → p ≤ length s → frameWalk rules s p ≡ dead q → reads (s ++ t) p ≡ refused (record { why = DeadContinuation; place = q })
 
 -- Where all frames are read, a refusal stays as it is: a frame before a refused head is settled by it.
 abbrev pub AllRefusalsStay : AllReader → Type 0

@@ -1,10 +1,9 @@
 -- All frames of a run: document 01, "Reading": "`read_all_frames` reads until 1; 2, 3, 7 anywhere in the run come before 9."
 use Prim.Native.Nat.{ℕ, zero, suc}
 use mathlib.Core.List.{List, [], _∷_}
-use lib.Dec.{eqb}
 use lib.ListN.{length}
 use Rattle.wire.specs.Bytes.{pick}
-use Rattle.answer.specs.Numbers.{numberOf}
+use Rattle.answer.specs.Numbers.{notWhole}
 use Rattle.answer.specs.declared.Refused.{Refused}
 use Rattle.dss_frame.specs.declared.Rules.the-variants.{Reader}
 use Rattle.dss_frame.specs.Segments.{endOf}
@@ -19,10 +18,10 @@ abbrev pub before : Frame → AllRead → AllRead
 before f (frames fs q) = frames (f ∷ fs) q
 before f (refusedAll r) = refusedAll r
 
--- a frame, and more from its end on; 1 ends the reading where it is, and any other refusal refuses the call
+-- a frame, and more from its end on; 1 and 16 end the reading where it is, and any other refusal refuses the call
 abbrev pub andOn : ℕ → Read → (ℕ → AllRead) → AllRead
 andOn p (frame f) more = before f (more (endOf p (f .segments)))
-andOn p (refused r) more = pick (eqb (numberOf (r .why)) 1) (frames [] p) (refusedAll r)
+andOn p (refused r) more = pick (notWhole (r .why)) (frames [] p) (refusedAll r)
 
 unfoldable pub framesFuel : ℕ → List ℕ → ℕ → AllRead
 unfolding endOf readAt

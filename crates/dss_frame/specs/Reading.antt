@@ -4,8 +4,9 @@ use mathlib.Core.Bool.{Bool, true, false}
 use mathlib.Core.List.{List, [], _∷_, _++_}
 use lib.Dec.{ltb, leb, eqb}
 use lib.ListN.{length}
+use Rattle.answer.specs.Numbers.{numberOf}
 use Rattle.answer.specs.Rooms.{outOfBounds}
-use Rattle.answer.specs.declared.Refusal.the-variants.{Incomplete, LengthTooShort}
+use Rattle.answer.specs.declared.Refusal.the-variants.{Incomplete, LengthTooShort, DeadContinuation}
 use Rattle.answer.specs.declared.Refused.{Refused}
 use Rattle.wire.specs.Bytes.{pick, and, be16, marker}
 use Rattle.dss_head.specs.Heads.{headAt}
@@ -114,19 +115,28 @@ readHead rules s p gs (Head h) =
     pick (ltb (be16 s p) 6) (refused (record { why = LengthTooShort (be16 s p); place = p }))
     (pick (eqb (be16 s p) 0xFFFF) (frame (record { head = h; segments = gs })) (absorb rules s p h gs))
 
-abbrev pub readWalk : Rules → List ℕ → ℕ → Walk → Read
-readWalk rules s p short = refused (record { why = Incomplete; place = p })
-readWalk rules s p (dead q) = refused (record { why = Incomplete; place = p })
-readWalk rules s p (whole gs) = readHead rules s p gs (headAt s p)
+-- W-203, "16 says a continuation length of 0 or 1 was reached in an otherwise present frame, with the place of that length; 1
+-- remains for all else": what becomes of a walk from p, by what is done with a refusal and with the segments
+abbrev pub ifWhole : {A : Type 0} → ℕ → (Refused → A) → (List Segment → A) → Walk → A
+ifWhole p not-whole is-whole short = not-whole (record { why = Incomplete; place = p })
+ifWhole p not-whole is-whole (dead q) = not-whole (record { why = DeadContinuation; place = q })
+ifWhole p not-whole is-whole (whole gs) = is-whole gs
 
--- "`next_frame`, order: 10, 1, then head 2, 3, 7"
+abbrev pub readWalk : Rules → List ℕ → ℕ → Walk → Read
+readWalk rules s p = ifWhole p refused (λ gs. readHead rules s p gs (headAt s p))
+
+-- "`next_frame`, order: 10, 1, then head 2, 3, 7"; W-203: "16 takes 1's place in the order"
 unfoldable pub readAt : Rules → List ℕ → ℕ → Read
 unfolding absorb frameWalk
 readAt rules s p =
     pick (leb p (length s)) (readWalk rules s p (frameWalk rules s p))
     (refused (outOfBounds p (length s)))
 
--- where a refusal leaves the position: at the refused head for 2, 3 and 7, else where it was. The place says both
+-- where a refusal leaves the position: at the refused head for 2, 3 and 7, else where it was. The place says both, but for
+-- 16, whose place is that of a length inside the frame
+abbrev pub positionLeft : ℕ → Refused → ℕ
+positionLeft p r = pick (eqb (numberOf (r .why)) 16) p (r .place)
+
 abbrev pub positionAfter : ℕ → Read → ℕ
 positionAfter p (frame f) = endOf p (f .segments)
-positionAfter p (refused r) = r .place
+positionAfter p (refused r) = positionLeft p r

@@ -2,12 +2,12 @@
 use Prim.Native.Nat.{ℕ, zero, suc, _+_, _-_, _≤_, _<_}
 use native.Mathlib.Omega.{arith}
 use mathlib.Core.Path.{_≡_, refl, sym, ap, _∙_}
+use mathlib.Core.Bool.{true, false}
 use mathlib.Core.List.{List, []}
-use lib.Dec.{eqb}
 use lib.ListN.{length}
-use borrow.Author.Tests.{lt-ltb, le-leb, ne-eqb}
+use borrow.Author.Tests.{lt-ltb, le-leb}
 use Rattle.wire.specs.Laws.{pick-yes, pick-no}
-use Rattle.answer.specs.Numbers.{numberOf}
+use Rattle.answer.specs.Numbers.{notWhole}
 use Rattle.answer.specs.declared.Refusal.the-variants.{Incomplete}
 use Rattle.answer.specs.declared.Refused.{Refused}
 use Rattle.dss_frame.specs.declared.Rules.the-variants.{Reader}
@@ -53,10 +53,10 @@ frames-step s p =
 pub frames-more : (s : List ℕ) (p : ℕ) (f : Frame) → readAt Reader s p ≡ frame f → allFrames s p ≡ before f (allFrames s (endOf p (f .segments)))
 frames-more s p f e = frames-step s p ∙ ap (λ (r : Read). andOn p r (allFrames s)) e
 
--- "reads until 1"
-pub frames-end : (s : List ℕ) (p : ℕ) (r : Refused) → readAt Reader s p ≡ refused r → numberOf (r .why) ≡ 1 → allFrames s p ≡ frames [] p
-frames-end s p r e k = frames-step s p ∙ ap (λ (x : Read). andOn p x (allFrames s)) e ∙ pick-yes _ _ (ap (λ (n : ℕ). eqb n 1) k)
+-- "reads until 1", or 16
+pub frames-end : (s : List ℕ) (p : ℕ) (r : Refused) → readAt Reader s p ≡ refused r → notWhole (r .why) ≡ true → allFrames s p ≡ frames [] p
+frames-end s p r e k = frames-step s p ∙ ap (λ (x : Read). andOn p x (allFrames s)) e ∙ pick-yes _ _ k
 
 -- any other refusal refuses the call
-pub frames-refused : (s : List ℕ) (p : ℕ) (r : Refused) → readAt Reader s p ≡ refused r → (numberOf (r .why) ≡ 1 → ⊥) → allFrames s p ≡ refusedAll r
-frames-refused s p r e k = frames-step s p ∙ ap (λ (x : Read). andOn p x (allFrames s)) e ∙ pick-no _ _ (ne-eqb (numberOf (r .why)) 1 k)
+pub frames-refused : (s : List ℕ) (p : ℕ) (r : Refused) → readAt Reader s p ≡ refused r → notWhole (r .why) ≡ false → allFrames s p ≡ refusedAll r
+frames-refused s p r e k = frames-step s p ∙ ap (λ (x : Read). andOn p x (allFrames s)) e ∙ pick-no _ _ k

@@ -9,3 +9,4 @@ pub mod Salvaging
 pub mod Framed
 pub mod Writing
 pub mod HeadLaws
+pub mod Dead

@@ -1,9 +1,12 @@
 -- What a continuation's raw length says under either's rules. Every law of `chunkUnder` is here.
 use Prim.Native.Nat.{ℕ, _≤_, _<_}
 use native.Mathlib.Omega.{arith}
-use mathlib.Core.Path.{_≡_, ap, _∙_}
+use mathlib.Core.Path.{_≡_, refl, ap, _∙_}
+use mathlib.Core.Logic.{_⊎_, inl, inr}
 use borrow.Author.Tests.{le-ltb, lt-ltb, ne-eqb}
 use Rattle.dss_head.specs.Heads.{chunkOf}
+use Rattle.dss_head.specs.HeadLaws.{chunk-by}
+use Rattle.dss_head.specs.declared.Chunk.{Chunk}
 use Rattle.dss_head.specs.declared.Chunk.the-variants.{Dead, Last, Full}
 use Rattle.dss_frame.specs.Rules.{chunkUnder}
 use Rattle.dss_frame.specs.declared.Rules.{Rules}
@@ -47,3 +50,11 @@ chunk-full Salvage n e = ap chunkOf e
 pub chunk-full-low : (rules : Rules) (n : ℕ) → n ≡ 0x7FFF → chunkUnder rules n ≡ Full
 chunk-full-low Reader n e = ap chunkOf e
 chunk-full-low Salvage n e = ap chunkOf e
+
+-- 2 or more: the last, or full
+alive : (n : ℕ) → 2 ≤ n → (chunkOf n ≡ Last) ⊎ (chunkOf n ≡ Full)
+alive n h = chunk-by (λ (c : Chunk). (c ≡ Last) ⊎ (c ≡ Full)) n (λ l. absurd (omega arith)) (λ l k e. inl refl) (λ e. inr refl) (λ l. inr refl)
+
+pub chunk-alive : (rules : Rules) (n : ℕ) → 2 ≤ n → (chunkUnder rules n ≡ Last) ⊎ (chunkUnder rules n ≡ Full)
+chunk-alive Reader n h = alive n h
+chunk-alive Salvage n h = alive n h

@@ -1,4 +1,4 @@
--- The laws of what measuring answers, one for each answer, in document 01's order: 10, 1, 2, 3, 7, then the frame.
+-- The laws of what measuring answers, one for each answer, in document 01's order: 10, 1 or 16, 2, 3, 7, then the frame.
 use Prim.Native.Nat.{ℕ, _-_, _≤_, _<_}
 use native.Mathlib.Omega.{arith}
 use mathlib.Core.Path.{_≡_, refl, sym, ap, _∙_}
@@ -9,7 +9,7 @@ use borrow.Author.Tests.{le-ltb, lt-ltb, le-leb, lt-leb, eq-eqb, ne-eqb, ltb-tru
 use Rattle.wire.specs.Bytes.{be16}
 use Rattle.wire.specs.Laws.{by, pick-yes, pick-no}
 use Rattle.answer.specs.Rooms.{outOfBounds}
-use Rattle.answer.specs.declared.Refusal.the-variants.{Incomplete, LengthTooShort}
+use Rattle.answer.specs.declared.Refusal.the-variants.{Incomplete, LengthTooShort, DeadContinuation}
 use Rattle.answer.specs.declared.Refused.{Refused}
 use Rattle.dss_head.specs.Heads.{headAt}
 use Rattle.dss_head.specs.declared.DssHeader.{DssHeader}
@@ -33,22 +33,22 @@ module _ (rules : Rules) (s : List ℕ) (p : ℕ) where
   unfolding measuredAt readAt
   reads h w e = ap (measuredOf s p) (pick-yes _ _ (le-leb p (length s) h) ∙ ap (readWalk rules s p) e)
 
-  -- "1": whatever the reason
+  -- "1", and 16
   short-walk : (w : Walk) → walkedOf s p w ≡ Short → readWalk rules s p w ≡ refused (record { why = Incomplete; place = p })
   short-walk (whole gs) e = let z : _≡_ {A = ℕ} 0 1 = cc in absurd (omega arith)
   short-walk short e = refl
-  short-walk (dead q) e = refl
+  short-walk (dead q) e = let z : _≡_ {A = ℕ} 0 1 = cc in absurd (omega arith)
 
-  dead-walk : (w : Walk) (d : ℕ) → walkedOf s p w ≡ Dead d → readWalk rules s p w ≡ refused (record { why = Incomplete; place = p })
+  dead-walk : (w : Walk) (d : ℕ) → walkedOf s p w ≡ Dead d → readWalk rules s p w ≡ refused (record { why = DeadContinuation; place = d })
   dead-walk (whole gs) d e = let z : _≡_ {A = ℕ} 0 1 = cc in absurd (omega arith)
-  dead-walk short d e = refl
-  dead-walk (dead q) d e = refl
+  dead-walk short d e = let z : _≡_ {A = ℕ} 0 1 = cc in absurd (omega arith)
+  dead-walk (dead q) d e = let z : q ≡ d = cc in ap (λ (x : ℕ). refused (record { why = DeadContinuation; place = x })) z
 
   pub measured-short : p ≤ length s → walkedAt rules s p ≡ Short → measuredAt rules s p ≡ NotMeasured (record { why = Incomplete; place = p })
   unfolding walkedAt
   measured-short h e = reads h (frameWalk rules s p) refl ∙ ap (measuredOf s p) (short-walk (frameWalk rules s p) e)
 
-  pub measured-dead : (d : ℕ) → p ≤ length s → walkedAt rules s p ≡ Dead d → measuredAt rules s p ≡ NotMeasured (record { why = Incomplete; place = p })
+  pub measured-dead : (d : ℕ) → p ≤ length s → walkedAt rules s p ≡ Dead d → measuredAt rules s p ≡ NotMeasured (record { why = DeadContinuation; place = d })
   unfolding walkedAt
   measured-dead d h e = reads h (frameWalk rules s p) refl ∙ ap (measuredOf s p) (dead-walk (frameWalk rules s p) d e)
 

@@ -327,7 +327,7 @@ pub(crate) fn measure_whole(
     }
 }
 
-// The frame at a place of a run, under either's rules: refusals 10, 1, 2, 3, 7.
+// The frame at a place of a run, under either's rules: refusals 10, 1 or 16, 2, 3, 7.
 pub fn measure(rules: Rules, run: &[u8], at: usize) -> Measured
     ensures { λ r. ⌜ r ≡ measuredAt rules (now (run .entry)) at ⌝ }
 {
@@ -343,9 +343,9 @@ pub fn measure(rules: Rules, run: &[u8], at: usize) -> Measured
             let why = Refusal::Incomplete;
             return Measured::Refused(Refused { why, place: at });
         }
-        Walked::Dead(_) => {
-            let why = Refusal::Incomplete;
-            return Measured::Refused(Refused { why, place: at });
+        Walked::Dead(place) => {
+            let why = Refusal::DeadContinuation;
+            return Measured::Refused(Refused { why, place });
         }
         Walked::Whole {
             end,

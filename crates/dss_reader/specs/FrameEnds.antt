@@ -1,13 +1,13 @@
 -- The laws of a frame's end, one for each answer of the walk.
 use Prim.Native.Nat.{ℕ, _≤_, _<_}
 use native.Mathlib.Omega.{arith}
-use mathlib.Core.Path.{_≡_, refl, _∙_}
+use mathlib.Core.Path.{_≡_, refl, ap, _∙_}
 use mathlib.Core.List.{List}
 use lib.ListN.{length}
 use borrow.Author.Tests.{le-leb, lt-leb}
 use Rattle.wire.specs.Laws.{pick-yes, pick-no}
 use Rattle.answer.specs.Rooms.{outOfBounds}
-use Rattle.answer.specs.declared.Refusal.the-variants.{Incomplete}
+use Rattle.answer.specs.declared.Refusal.the-variants.{Incomplete, DeadContinuation}
 use Rattle.dss_frame.specs.Segments.{Walk, whole, short, dead, frameWalk}
 use Rattle.dss_frame.specs.declared.Rules.the-variants.{Reader}
 use Rattle.dss_measure.specs.declared.Walked.the-variants.{Whole, Short, Dead}
@@ -29,12 +29,12 @@ module _ (s : List ℕ) (p : ℕ) where
   of-short : (w : Walk) → walkedOf s p w ≡ Short → endFound p w ≡ NoEnd (record { why = Incomplete; place = p })
   of-short (whole gs) i = let z : _≡_ {A = ℕ} 0 1 = cc in absurd (omega arith)
   of-short short i = refl
-  of-short (dead q) i = refl
+  of-short (dead q) i = let z : _≡_ {A = ℕ} 0 1 = cc in absurd (omega arith)
 
-  of-dead : (w : Walk) (d : ℕ) → walkedOf s p w ≡ Dead d → endFound p w ≡ NoEnd (record { why = Incomplete; place = p })
+  of-dead : (w : Walk) (d : ℕ) → walkedOf s p w ≡ Dead d → endFound p w ≡ NoEnd (record { why = DeadContinuation; place = d })
   of-dead (whole gs) d i = let z : _≡_ {A = ℕ} 0 1 = cc in absurd (omega arith)
-  of-dead short d i = refl
-  of-dead (dead q) d i = refl
+  of-dead short d i = let z : _≡_ {A = ℕ} 0 1 = cc in absurd (omega arith)
+  of-dead (dead q) d i = let z : q ≡ d = cc in ap (λ (x : ℕ). NoEnd (record { why = DeadContinuation; place = x })) z
 
   module _ (h : p ≤ length s) where
     walks : frameEnd s p ≡ endFound p (frameWalk Reader s p)
@@ -46,11 +46,11 @@ module _ (s : List ℕ) (p : ℕ) where
     unfolding walkedAt
     end-whole e k n i = walks ∙ of-whole (frameWalk Reader s p) e k n i
 
-    -- or "not whole", whatever the reason
+    -- or "not whole": 1, or 16
     pub end-short : walkedAt Reader s p ≡ Short → frameEnd s p ≡ NoEnd (record { why = Incomplete; place = p })
     unfolding walkedAt
     end-short i = walks ∙ of-short (frameWalk Reader s p) i
 
-    pub end-dead : (d : ℕ) → walkedAt Reader s p ≡ Dead d → frameEnd s p ≡ NoEnd (record { why = Incomplete; place = p })
+    pub end-dead : (d : ℕ) → walkedAt Reader s p ≡ Dead d → frameEnd s p ≡ NoEnd (record { why = DeadContinuation; place = d })
     unfolding walkedAt
     end-dead d i = walks ∙ of-dead (frameWalk Reader s p) d i

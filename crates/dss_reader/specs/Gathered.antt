@@ -31,7 +31,7 @@ pub record Gathers (s : List ℕ) (p : ℕ) (room : List ℕ) (rows : ℕ) (r : 
   pub room-is : after ≡ roomAll s room rows (allFrames s p)
 
 -- any refusal but 9
-pub answers-refused : (s : List ℕ) (p size rows : ℕ) (x : Refused) → allFrames s p ≡ refusedAll x → NoneRead x (leftAt x) ≡ givenAll s p size rows (allFrames s p)
+pub answers-refused : (s : List ℕ) (p size rows : ℕ) (x : Refused) → allFrames s p ≡ refusedAll x → NoneRead x (leftAt p x) ≡ givenAll s p size rows (allFrames s p)
 answers-refused s p size rows x e = sym (ap (givenAll s p size rows) e)
 
 module _ (size rows : ℕ) {s : List ℕ} {p count bytes end : ℕ} (w : Counted s p count bytes end) where

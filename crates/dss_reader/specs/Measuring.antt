@@ -4,9 +4,10 @@ use native.Mathlib.Nat.{add-assoc}
 use native.Mathlib.Numerals.{one-add}
 use native.Mathlib.Omega.{arith}
 use mathlib.Core.Path.{_≡_, refl, sym, ap, ap₂, _∙_}
+use mathlib.Core.Bool.{true, false}
 use mathlib.Core.List.{List}
 use lib.ListN.{length, length-append}
-use Rattle.answer.specs.Numbers.{numberOf}
+use Rattle.answer.specs.Numbers.{notWhole}
 use Rattle.answer.specs.declared.Refused.{Refused}
 use Rattle.dss_frame.specs.declared.Rules.the-variants.{Reader}
 use Rattle.dss_frame.specs.Segments.{payloadOf, endOf}
@@ -59,14 +60,14 @@ module _ (s : List ℕ) (p k n : ℕ) where
       ∙ ap (λ (x : FrameMeasure). addsAll k n (addsAll 1 (x .«payload_len») (measuredAll s (x .end)))) (w .same)
       ∙ adds-adds k n 1 (m .«payload_len») (measuredAll s (m .end))
 
-  -- "reads until 1"
-  pub all-end : (r : Refused) → readAt Reader s p ≡ refused r → numberOf (r .why) ≡ 1 → addsAll k n (measuredAll s p) ≡ Frames k n p
+  -- "reads until 1", or 16
+  pub all-end : (r : Refused) → readAt Reader s p ≡ refused r → notWhole (r .why) ≡ true → addsAll k n (measuredAll s p) ≡ Frames k n p
   unfolding measuredAll payloadsOf
   all-end r e i =
       ap (λ (a : AllRead). addsAll k n (allMeasuredOf s a)) (frames-end s p r e i) ∙ ap₂ (λ (x y : ℕ). Frames x y p) (omega arith) (omega arith)
 
   -- any other refusal
-  pub all-refused : (r : Refused) → readAt Reader s p ≡ refused r → (numberOf (r .why) ≡ 1 → ⊥) → addsAll k n (measuredAll s p) ≡ NoneMeasured r
+  pub all-refused : (r : Refused) → readAt Reader s p ≡ refused r → notWhole (r .why) ≡ false → addsAll k n (measuredAll s p) ≡ NoneMeasured r
   unfolding measuredAll
   all-refused r e i = ap (λ (a : AllRead). addsAll k n (allMeasuredOf s a)) (frames-refused s p r e i)
 

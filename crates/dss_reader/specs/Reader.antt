@@ -7,10 +7,9 @@ use lib.Dec.{leb}
 use lib.ListN.{length}
 use Rattle.wire.specs.Bytes.{pick, landed}
 use Rattle.answer.specs.Rooms.{noRoom, outOfBounds, bothFit}
-use Rattle.answer.specs.declared.Refusal.the-variants.{Incomplete}
 use Rattle.answer.specs.declared.Refused.{Refused}
-use Rattle.dss_frame.specs.Segments.{Walk, whole, short, dead, payloadOf, endOf, frameWalk}
-use Rattle.dss_frame.specs.Reading.{Frame, Read, frame, refused, readAt}
+use Rattle.dss_frame.specs.Segments.{Walk, payloadOf, endOf, frameWalk}
+use Rattle.dss_frame.specs.Reading.{Frame, Read, frame, refused, readAt, ifWhole, positionLeft}
 use Rattle.dss_frame.specs.Frames.{AllRead, frames, refusedAll, allFrames}
 use Rattle.dss_frame.specs.Records.{recordOf, recordsOf, payloadsOf}
 use Rattle.dss_frame.specs.declared.DssFrame.{DssFrame}
@@ -27,17 +26,15 @@ use Rattle.dss_reader.specs.declared.FramesRead.the-variants.{Frames, Re
 abbrev pub standsAt : ℕ → DssReader
 standsAt p = record { position = p }
 
--- a refusal leaves the position "at the refused head" for 2, 3 and 7, and "where it was" for 1, 9 and 10: its place says both
-abbrev pub leftAt : Refused → DssReader
-leftAt r = standsAt (r .place)
+-- a refusal leaves the position "at the refused head" for 2, 3 and 7, and "where it was" for 1, 9, 10 and 16
+abbrev pub leftAt : ℕ → Refused → DssReader
+leftAt p r = standsAt (positionLeft p r)
 
 -- ---- the frame's end
 
--- "The walk over continuations yields the end offset or "not whole"". Why it isn't whole, the base's answer 1 forgets
+-- "The walk over continuations yields the end offset or "not whole""
 abbrev pub endFound : ℕ → Walk → FrameEnd
-endFound p (whole gs) = End (endOf p gs)
-endFound p short = NoEnd (record { why = Incomplete; place = p })
-endFound p (dead q) = NoEnd (record { why = Incomplete; place = p })
+endFound p = ifWhole p NoEnd (λ gs. End (endOf p gs))
 
 -- `complete_frame_len`; `first_complete_frame_len` is that at 0
 unfoldable pub frameEnd : List ℕ → ℕ → FrameEnd
@@ -53,7 +50,7 @@ isEnd (NoEnd r) = false
 
 -- "Last comes 9, position unmoved"; "`next_frame` hands its one record back by value and needs no row"
 abbrev pub given : List ℕ → ℕ → ℕ → Read → FrameRead
-given s p size (refused r) = NotRead r (leftAt r)
+given s p size (refused r) = NotRead r (leftAt p r)
 given s p size (frame f) =
     pick (leb (length (payloadOf s (f .segments))) size) (Gives (recordOf s 0 f) (standsAt (endOf p (f .segments))))
     (NotRead (noRoom p (length (payloadOf s (f .segments))) 0) (standsAt p))
@@ -70,7 +67,7 @@ framesFit s fs size rows = bothFit (length (payloadsOf s fs)) size (length fs) r
 
 -- "At 2, 3, 7 the position stands at the refused head; at 9 and 10 where it was"
 abbrev pub givenAll : List ℕ → ℕ → ℕ → ℕ → AllRead → FramesRead
-givenAll s p size rows (refusedAll r) = NoneRead r (leftAt r)
+givenAll s p size rows (refusedAll r) = NoneRead r (leftAt p r)
 givenAll s p size rows (frames fs q) =
     pick (framesFit s fs size rows) (Frames (length fs) (length (payloadsOf s fs)) (standsAt q))
     (NoneRead (noRoom p (length (payloadsOf s fs)) (length fs)) (standsAt p))

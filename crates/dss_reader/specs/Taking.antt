@@ -3,14 +3,14 @@ use Prim.Native.Nat.{ℕ, suc, _+_, _-_, _≤_, _<_}
 use native.Mathlib.Omega.{arith}
 use mathlib.Core.Path.{_≡_, refl, sym, ap, ap₂, _∙_}
 use mathlib.Core.List.{List, [], _∷_, _++_, append-nil}
-use lib.Dec.{leb, eqb}
+use lib.Dec.{leb}
 use lib.ListN.{length, take, drop, length-append, length-drop, take-append-drop}
 use lib.Seq.{take-all, drop-length}
 use borrow.Author.Tests.{leb-true, leb-false}
 use Rattle.wire.specs.Bytes.{splice}
 use Rattle.wire.specs.Laws.{by, pick-yes, pick-no, picked}
 use Rattle.wire.specs.Splice.{splice-none, splice-lent, splice-length, splice-splice, laid-fits}
-use Rattle.answer.specs.Numbers.{numberOf}
+use Rattle.answer.specs.Numbers.{notWhole}
 use Rattle.answer.specs.declared.Refused.{Refused}
 use Rattle.dss_frame.specs.declared.Rules.the-variants.{Reader}
 use Rattle.dss_frame.specs.Segments.{payloadOf, endOf}
@@ -24,31 +24,37 @@ use Rattle.dss_measure.specs.declared.Measured.{Measured}
 use Rattle.dss_measure.specs.declared.Measured.the-variants.{Frame as Measures, Refused as NotMeasured}
 use Rattle.dss_measure.specs.Measure.{measureOf, measuredOf, measuredAt}
 use Rattle.dss_take.specs.Take.{takenOf, roomRead, Takes}
+use Rattle.dss_reader.specs.declared.DssReader.{DssReader}
 use Rattle.dss_reader.specs.declared.FrameRead.{FrameRead}
 use Rattle.dss_reader.specs.declared.FrameRead.the-variants.{Frame as Gives, Refused as NotRead}
 use Rattle.dss_reader.specs.Reader.{standsAt, leftAt, given, NextFrame}
 
 -- ---- one frame
 
--- the reader's answer, of what taking answered
-abbrev pub readOf : Measured → FrameRead
-readOf (Measures m) = Gives (record { header = m .header; «payload_at» = 0; «payload_len» = m .«payload_len»; segments = m .segments }) (standsAt (m .end))
-readOf (NotMeasured r) = NotRead r (leftAt r)
+-- the reader's answer, of what taking answered at p
+abbrev pub readOf : ℕ → Measured → FrameRead
+readOf p (Measures m) = Gives (record { header = m .header; «payload_at» = 0; «payload_len» = m .«payload_len»; segments = m .segments }) (standsAt (m .end))
+readOf p (NotMeasured r) = NotRead r (leftAt p r)
 
 module _ (s : List ℕ) (p : ℕ) where
-  read-is : (size : ℕ) (r : Read) → readOf (takenOf s p size r) ≡ given s p size r
+  read-is : (size : ℕ) (r : Read) → readOf p (takenOf s p size r) ≡ given s p size r
   read-is size (refused r) = refl
   read-is size (frame f) =
       by (leb (length (payloadOf s (f .segments))) size)
-      (λ t. ap readOf (pick-yes _ _ t) ∙ sym (pick-yes _ _ t))
-      (λ t. ap readOf (pick-no _ _ t) ∙ sym (pick-no _ _ t))
+      (λ t. ap (readOf p) (pick-yes _ _ t) ∙ sym (pick-yes _ _ t))
+      (λ t. ap (readOf p) (pick-no _ _ t) ∙ sym (pick-no _ _ t))
 
-  pub next-is : (room : List ℕ) (m r : Measured) (after : List ℕ) → Takes Reader s p room r after → r ≡ m → NextFrame s p room (readOf m) after
+  pub next-is : (room : List ℕ) (m r : Measured) (after : List ℕ) → Takes Reader s p room r after → r ≡ m → NextFrame s p room (readOf p m) after
   next-is room m r after w e =
       record {
-        answers = ap readOf (sym e ∙ w .answers) ∙ read-is (length room) (readAt Reader s p);
+        answers = ap (readOf p) (sym e ∙ w .answers) ∙ read-is (length room) (readAt Reader s p);
         room-is = w .room-is;
       }
+
+  -- a refusal, with the reader that it leaves
+  pub next-refused : (room : List ℕ) (x : Refused) (d : DssReader) (r : Measured) (after : List ℕ) → Takes Reader s p room r after → r ≡ NotMeasured x → d ≡ leftAt p x
+      → NextFrame s p room (NotRead x d) after
+  next-refused room x d r after w e i = record { answers = ap (NotRead x) i ∙ next-is room (NotMeasured x) r after w e .answers; room-is = w .room-is }
 
 -- ---- what taking says of the frame
 
@@ -214,7 +220,7 @@ module _ {s whole room : List ℕ} {at mark : ℕ} (w : Taking s whole room at m
   none-left : (r : Refused) → readAt Reader s at ≡ refused r → w .left ≡ []
   none-left r e =
       let k : andOn at (refused r) (allFrames s) ≡ frames (w .left) (w .end) = ap (λ (a : Read). andOn at a (allFrames s)) (sym e) ∙ sym (frames-step s at) ∙ w .is in
-      picked (eqb (numberOf (r .why)) 1) k
+      picked (notWhole (r .why)) k
       (λ t i. let z : [] ≡ w .left = cc in sym z)
       (λ t i. let z : _≡_ {A = ℕ} 0 1 = cc in absurd (omega arith))
 

@@ -6,7 +6,7 @@ ghost use Rattle.wire.specs.Bytes.{splice};
 ghost use Rattle.wire.specs.Parts.{RestAt};
 ghost use Rattle.answer.specs.Rooms.{noRoom};
 ghost use Rattle.dss_frame.specs.Frames.{allFrames};
-ghost use Rattle.dss_reader.specs.Reader.{standsAt, frameEnd, isEnd, NextFrame, givenAll, ReadAllFrames};
+ghost use Rattle.dss_reader.specs.Reader.{standsAt, leftAt, frameEnd, isEnd, NextFrame, givenAll, ReadAllFrames};
 ghost use Rattle.dss_reader.specs.Gathered.{Gathers, recordsIn};
 ghost use Rattle.dss_reader.specs.Measuring.{measuredAll};
 ghost use Rattle.dss_reader.specs.Taking.{allPayloads, Fits};
@@ -56,7 +56,7 @@ pub enum AllMeasured {
     Refused(Refused),
 }
 
-// The end of the frame at a place of a run: refusals 10, 1.
+// The end of the frame at a place of a run: refusals 10, 1 or 16.
 pub(crate) fn frame_end(run: &[u8], at: usize) -> FrameEnd
     ensures { λ r. ⌜ r ≡ frameEnd (now (run .entry)) at ⌝ }
 {
@@ -77,14 +77,27 @@ pub(crate) fn frame_end(run: &[u8], at: usize) -> FrameEnd
             let why = Refusal::Incomplete;
             FrameEnd::Refused(Refused { why, place: at })
         }
-        Walked::Dead(_) => {
-            let why = Refusal::Incomplete;
-            FrameEnd::Refused(Refused { why, place: at })
+        Walked::Dead(place) => {
+            let why = Refusal::DeadContinuation;
+            FrameEnd::Refused(Refused { why, place })
         }
     }
 }
 
-// All frames from a place on: reads until 1. Every other refusal but 9.
+// Where a refusal leaves a reader that stood at a place.
+pub(crate) fn left_at(at: usize, refused: Refused) -> DssReader
+    ensures { λ r. ⌜ r ≡ leftAt at refused ⌝ }
+{
+    let why = refused.why;
+    if why.number() == 16 {
+        return DssReader { position: at };
+    }
+    DssReader {
+        position: refused.place,
+    }
+}
+
+// All frames from a place on: reads until 1 or 16. Every other refusal but 9.
 pub(crate) fn measure_all(run: &[u8], from: usize) -> AllMeasured
     ensures { λ r. ⌜ r ≡ measuredAll (now (run .entry)) «from» ⌝ }
 {
@@ -95,7 +108,7 @@ pub(crate) fn measure_all(run: &[u8], from: usize) -> AllMeasured
         match dss_measure::measure_extent(Rules::Reader, run, at) {
             Extent::Refused(refused) => {
                 let why = refused.why;
-                if why.number() == 1 {
+                if why.not_whole() {
                     return AllMeasured::Frames {
                         count,
                         bytes,
@@ -148,8 +161,8 @@ pub fn measure_frames(run: &[u8], at: usize, size: usize, rows: usize) -> Frames
 {
     match measure_all(run, at) {
         AllMeasured::Refused(refused) => {
-            let position = refused.place;
-            FramesRead::Refused(refused, DssReader { position })
+            let reader = left_at(at, refused);
+            FramesRead::Refused(refused, reader)
         }
         AllMeasured::Frames { count, bytes, end } => {
             if size < bytes {
@@ -269,13 +282,14 @@ impl DssReader {
                 FrameRead::Frame(frame, DssReader { position })
             }
             Measured::Refused(refused) => {
-                let position = refused.place;
-                FrameRead::Refused(refused, DssReader { position })
+                let reader = left_at(self.position, refused);
+                FrameRead::Refused(refused, reader)
             }
         }
     }
 
-    // All frames from the position on, until one isn't whole: their payloads end to end in the room, their records in the row.
+    // All frames from the position on, until one isn't whole, yet or ever: their payloads end to end in the room, their records in
+    // the row.
     pub fn read_all_frames(self, run: &[u8], room: &mut [u8], row: &mut [DssFrame]) -> FramesRead
         ensures { λ r. ⌜ ReadAllFrames (now (run .entry)) (self .position) (now (room .entry)) (now (row .entry)) r (now (room .exit)) (now (row .exit)) ⌝ }
     {

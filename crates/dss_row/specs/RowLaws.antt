@@ -8,7 +8,7 @@ use lib.ListN.{length, drop}
 use borrow.Author.Tests.{eq-eqb, ne-eqb}
 use Rattle.wire.specs.Bytes.{splice}
 use Rattle.wire.specs.Laws.{pick-yes, pick-no, picked}
-use Rattle.answer.specs.Numbers.{numberOf}
+use Rattle.answer.specs.Numbers.{notWhole}
 use Rattle.dss_frame.specs.Segments.{payloadOf, endOf}
 use Rattle.dss_frame.specs.Reading.{Frame, Read, frame, refused, readAt}
 use Rattle.dss_frame.specs.Frames.{AllRead, frames, refusedAll, before, andOn, allFrames}
@@ -92,7 +92,7 @@ frames-onward s p f fs q e = of-read (readAt Reader s p) refl (sym (frames-step 
     of-read : (r : Read) → readAt Reader s p ≡ r → andOn p r (allFrames s) ≡ frames (f ∷ fs) q → Onward s p f fs q
     of-read (frame g) i k = of-frame g (allFrames s (endOf p (g .segments))) i refl k
     of-read (refused r) i k =
-        picked (eqb (numberOf (r .why)) 1) k
+        picked (notWhole (r .why)) k
         (λ t z. let y : _≡_ {A = ℕ} 0 1 = cc in absurd (omega arith))
         (λ t z. let y : _≡_ {A = ℕ} 0 1 = cc in absurd (omega arith))
 

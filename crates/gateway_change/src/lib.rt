@@ -35,8 +35,8 @@ pub extern "C" fn lattrugone_change_param_len(
     put_laid(words, laid)
 }
 
-// A request's frame with the first parameter of a code point rewritten, at the room's first byte: 1, 2, 3, 7, 17, 4, 5, 6, 8, 17, 11,
-// 18, 9.
+// A request's frame with the first parameter of a code point rewritten, at the room's first byte: 1 or 16, 2, 3, 7, 17, 4, 5, 6, 8,
+// 17, 11, 18, 9.
 #[no_mangle]
 pub extern "C" fn lattrugone_change_request(
     frame: &[u8],

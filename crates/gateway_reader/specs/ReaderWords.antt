@@ -20,7 +20,7 @@ endWords (End e) = doneWords e 0 0 0
 endWords (NoEnd r) = refusalWords r
 
 -- a frame: 0, the position behind it, length, the format byte, correlation, the payload's length, segments. A refusal's place
--- is the position that it leaves
+-- is the position that it leaves, but 16's: the position stays
 abbrev pub frameWords : FrameRead → List ℕ
 frameWords (Gives f reader) = frameAt (reader .position) f
 frameWords (NotRead r reader) = refusalWords r

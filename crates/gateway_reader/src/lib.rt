@@ -74,7 +74,8 @@ pub extern "C" fn lattrugone_first_frame_end(run: &[u8], words: &mut [u64]) -> u
 }
 
 // ---- one frame, its payload at the room's first byte. In the place's word the position behind it; the result: length, the
-// format byte, correlation, the payload's length, segments. A refusal's place is the position after it.
+// format byte, correlation, the payload's length, segments. A refusal's place is the position after it, but 16's, which is that of a
+// length inside the frame: the position stays.
 
 #[no_mangle]
 pub extern "C" fn lattrugone_next_frame(

@@ -11,7 +11,7 @@ use Rattle.wire.specs.Bytes.{pick, splice}
 use Rattle.wire.specs.Splice.{splice-tail, splice-rest}
 use Rattle.answer.specs.Numbers.{numberOf, valuesOf}
 use Rattle.answer.specs.declared.Refusal.{Refusal}
-use Rattle.answer.specs.declared.Refusal.the-variants.{Incomplete, InvalidMagic, InvalidDssType, BufferTooShort, InlineTooShort, HeaderTooShort, LengthTooShort, LengthTooLarge, NoRoom, OutOfBounds, NotFound, UnsoundData, UnreadableSize}
+use Rattle.answer.specs.declared.Refusal.the-variants.{Incomplete, InvalidMagic, InvalidDssType, BufferTooShort, InlineTooShort, HeaderTooShort, LengthTooShort, LengthTooLarge, NoRoom, OutOfBounds, NotFound, DeadContinuation, UnsoundData, UnreadableSize}
 use Rattle.answer.specs.declared.Refused.{Refused}
 use Rattle.dss_head.specs.Heads.{typeAt, flagsOf}
 use Rattle.dss_head.specs.HeadLaws.{format-back}
@@ -62,7 +62,8 @@ refusalSaid n a b c =
     (pick (eqb n 9) (NoRoom a b)
     (pick (eqb n 10) (OutOfBounds a b)
     (pick (eqb n 11) NotFound
-    (pick (eqb n 17) UnsoundData UnreadableSize)))))))))))
+    (pick (eqb n 16) DeadContinuation
+    (pick (eqb n 17) UnsoundData UnreadableSize))))))))))))
 
 said-back : (y : Refusal) → refusalSaid (numberOf y) (getD (valuesOf y) 0 0) (getD (valuesOf y) 1 0) (getD (valuesOf y) 2 0) ≡ y
 said-back Incomplete = refl
@@ -76,6 +77,7 @@ said-back (LengthTooLarge h) = refl
 said-back (NoRoom b r) = refl
 said-back (OutOfBounds m l) = refl
 said-back NotFound = refl
+said-back DeadContinuation = refl
 said-back UnsoundData = refl
 said-back UnreadableSize = refl
 
@@ -100,6 +102,7 @@ numbered (LengthTooLarge h) = omega arith
 numbered (NoRoom b r) = omega arith
 numbered (OutOfBounds m l) = omega arith
 numbered NotFound = omega arith
+numbered DeadContinuation = omega arith
 numbered UnsoundData = omega arith
 numbered UnreadableSize = omega arith
 

@@ -1,5 +1,5 @@
--- The lists of a few inputs: document 01's own, one whose second frame is lost to the refusal behind it, both sides of
--- 65,536 bytes, and the room that the programs lend.
+-- The lists of a few inputs: document 01's own, one whose second frame is lost to the refusal behind it, one that ends in a frame
+-- that is never whole, both sides of 65,536 bytes, and the room that the programs lend.
 use mathlib.Core.Path.{_≡_, refl, ap, _∙_}
 use mathlib.Core.List.{List, [], _∷_, _++_}
 use Prim.Native.Nat.{ℕ}
@@ -31,6 +31,16 @@ refusal : (listText Reader (request ++ (reply ++ replicate 6 0)) ≡ text "at 0 
     ≡ text "at 0 request --- corr 1 seg 1 bytes 4\nat 10 reply --- corr 7 seg 1 bytes 0\nrefused 2 at 16 value 0\nend 16 left 6\n")
 unfolding listText request reply
 refusal = (refl, refl)
+
+-- a reply, and a frame in several segments with 0 or 1 where its second length is due, or with only half of it: the end line for each
+unfinished : List ℕ → List ℕ
+unfinished rest = reply ++ (0xFF ∷ 0xFF ∷ 0xD0 ∷ 0x03 ∷ 0x00 ∷ 0x01 ∷ (replicate 32761 0xC1 ++ rest))
+
+never-whole : (listText Reader (unfinished (0 ∷ 1 ∷ [])) ≡ text "at 0 reply --- corr 7 seg 1 bytes 0\nend 6 left 32769\n")
+    × (listText Salvage (unfinished (0 ∷ 0 ∷ [])) ≡ text "at 0 reply --- corr 7 seg 1 bytes 0\nend 6 left 32769\n")
+    × (listText Reader (unfinished (0 ∷ [])) ≡ text "at 0 reply --- corr 7 seg 1 bytes 0\nend 6 left 32768\n")
+unfolding listText unfinished reply
+never-whole = (refl, refl, refl)
 
 -- nothing, and both sides of the most that is read
 edges : (listText Reader [] ≡ text "end 0 left 0\n")

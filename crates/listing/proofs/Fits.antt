@@ -12,7 +12,7 @@ use Rattle.wire.specs.Bytes.{be16, splice}
 use Rattle.wire.specs.Laws.{by, pick-by, pick-yes}
 use Rattle.wire.specs.Splice.{laid-fits, splice-written}
 use Rattle.wire.specs.Octets.{Octets}
-use Rattle.answer.specs.Numbers.{numberOf}
+use Rattle.answer.specs.Numbers.{notWhole}
 use Rattle.answer.specs.Rooms.{Lays}
 use Rattle.answer.specs.declared.Refused.{Refused}
 use Rattle.answer.specs.declared.Laid.{Laid}
@@ -74,7 +74,7 @@ module _ (s : List ℕ) (o : Octets s) (few : length s ≤ 65536) where
     where
       on-line : (r : Read) → Given p r → ((q : ℕ) → q ≤ length s → Fits q (linesFuel f s q)) → Fits p (lineOn s p r (λ q. linesFuel f s q))
       on-line r (line x a b c) go = fits-more p (endOf p (x .segments)) (frameLine s p x) _ a b c (go (endOf p (x .segments)) c)
-      on-line r (none x a) go = pick-by (Fits p) (eqb (numberOf (x .why)) 1) (endLine s p) (refusedText x) (λ e. fits-end p h) (λ e. omega arith)
+      on-line r (none x a) go = pick-by (Fits p) (notWhole (x .why)) (endLine s p) (refusedText x) (λ e. fits-end p h) (λ e. omega arith)
 
   frames-fit : length (framesText s) ≤ 10 * length s + last
   unfolding framesText linesFrom

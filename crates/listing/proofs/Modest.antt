@@ -11,7 +11,7 @@ use Rattle.wire.specs.Bytes.{be16}
 use Rattle.wire.specs.Laws.{pick-by}
 use Rattle.wire.specs.Octets.{Octets}
 use Rattle.answer.specs.Numbers.{numberOf, valuesOf}
-use Rattle.answer.specs.declared.Refusal.the-variants.{Incomplete, LengthTooShort}
+use Rattle.answer.specs.declared.Refusal.the-variants.{Incomplete, LengthTooShort, DeadContinuation}
 use Rattle.answer.specs.declared.Refused.{Refused}
 use Rattle.dss_head.specs.Heads.{headWith, headAt}
 use Rattle.dss_head.specs.declared.Chunk.{Chunk}
@@ -29,6 +29,7 @@ use Rattle.dss_frame.specs.declared.Rules.the-variants.{Reader, Salvage}
 use Rattle.dss_frame.specs.Segments.{Segment, Walk, whole, behind, continuation, first, step, walkFuel, continuations, frameWalk, payloadOf, endOf}
 use Rattle.dss_frame.specs.Reading.{Look, finished, absorbs, refuses, refusal, look, lookAt, follows, ownObject, Frame, Read, frame, refused, withChained, behindFrame, absorb, absorbFuel, readHead, readWalk, readAt, startsExtended}
 use Rattle.dss_laws.specs.Ends.{end-snoc}
+use Rattle.dss_laws.specs.Dead.{OfDead, dead-at, Inside, frame-dead}
 use Rattle.dss_laws.specs.Looks.{Sound, finishes, takes, stops, Taken, look-sound}
 use Rattle.dss_laws.specs.Bounds.{OfWhole, is-whole, is-short, is-dead, Six, walk-six}
 
@@ -165,13 +166,16 @@ module _ (s : List ℕ) (o : Octets s) where
   pub read-modest : (rules : Rules) (p : ℕ) → p ≤ length s → Modest s p (readAt rules s p)
   unfolding readAt
   read-modest rules p h =
-      pick-by (Modest s p) (leb p (length s)) _ _ (λ e. by-walk (frameWalk rules s p) (frame-few rules s p) (walk-six rules s p))
+      pick-by (Modest s p) (leb p (length s)) _ _ (λ e. by-walk (frameWalk rules s p) (frame-few rules s p) (walk-six rules s p) (frame-dead rules s p))
       (λ e. absurd (omega (arith, leb-false p (length s) e)))
     where
       not-whole : Small s (record { why = Incomplete; place = p })
       not-whole = record { number = omega arith; place = h; value = omega arith }
 
-      by-walk : (w : Walk) → OfWhole (Few p) w → OfWhole (Six s p) w → Modest s p (readWalk rules s p w)
-      by-walk w (is-whole gs k) (is-whole gs₁ six) = head-modest rules p gs (headAt s p) h (head-of p h) k (six .1)
-      by-walk w is-short six = a-refusal _ not-whole
-      by-walk w (is-dead q) six = a-refusal _ not-whole
+      never-whole : (q : ℕ) → q ≤ length s → Small s (record { why = DeadContinuation; place = q })
+      never-whole q i = record { number = omega arith; place = i; value = omega arith }
+
+      by-walk : (w : Walk) → OfWhole (Few p) w → OfWhole (Six s p) w → OfDead (Inside s p) w → Modest s p (readWalk rules s p w)
+      by-walk w (is-whole gs k) (is-whole gs₁ six) d = head-modest rules p gs (headAt s p) h (head-of p h) k (six .1)
+      by-walk w is-short six d = a-refusal _ not-whole
+      by-walk w (is-dead q) six (dead-at q₁ k) = a-refusal _ (never-whole q₁ (omega (arith, k)))

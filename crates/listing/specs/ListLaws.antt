@@ -2,12 +2,12 @@
 use Prim.Native.Nat.{ℕ, zero, suc, _+_, _-_, _≤_, _<_}
 use native.Mathlib.Omega.{arith}
 use mathlib.Core.Path.{_≡_, refl, ap, _∙_}
+use mathlib.Core.Bool.{true, false}
 use mathlib.Core.List.{List, _++_, append-assoc}
-use lib.Dec.{eqb}
 use lib.ListN.{length}
-use borrow.Author.Tests.{ne-eqb, le-leb, lt-leb}
+use borrow.Author.Tests.{le-leb, lt-leb}
 use Rattle.wire.specs.Laws.{pick-yes, pick-no}
-use Rattle.answer.specs.Numbers.{numberOf}
+use Rattle.answer.specs.Numbers.{notWhole}
 use Rattle.answer.specs.declared.Refused.{Refused}
 use Rattle.text.specs.Texts.{text}
 use Rattle.text.specs.Puts.{Puts}
@@ -58,12 +58,12 @@ module _ (s : List ℕ) (p : ℕ) where
       ∙ ap (λ (r : Read). lineOn s p r (linesFrom s)) (w .reads)
       ∙ ap (λ (x : FrameMeasure). measureLine p x ++ linesFrom s (x .end)) (w .same)
 
-  pub lines-end : (r : Refused) → readAt Reader s p ≡ refused r → numberOf (r .why) ≡ 1 → linesFrom s p ≡ endLine s p
+  pub lines-end : (r : Refused) → readAt Reader s p ≡ refused r → notWhole (r .why) ≡ true → linesFrom s p ≡ endLine s p
   lines-end r e k =
-      lines-step s p ∙ ap (λ (x : Read). lineOn s p x (linesFrom s)) e ∙ pick-yes _ _ (ap (λ (n : ℕ). eqb n 1) k)
+      lines-step s p ∙ ap (λ (x : Read). lineOn s p x (linesFrom s)) e ∙ pick-yes _ _ k
 
-  pub lines-refused : (r : Refused) → readAt Reader s p ≡ refused r → (numberOf (r .why) ≡ 1 → ⊥) → linesFrom s p ≡ refusedText r
-  lines-refused r e k = lines-step s p ∙ ap (λ (x : Read). lineOn s p x (linesFrom s)) e ∙ pick-no _ _ (ne-eqb (numberOf (r .why)) 1 k)
+  pub lines-refused : (r : Refused) → readAt Reader s p ≡ refused r → notWhole (r .why) ≡ false → linesFrom s p ≡ refusedText r
+  lines-refused r e k = lines-step s p ∙ ap (λ (x : Read). lineOn s p x (linesFrom s)) e ∙ pick-no _ _ k
 
 pub frames-from : (s : List ℕ) → framesText s ≡ linesFrom s 0
 unfolding framesText

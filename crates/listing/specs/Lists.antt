@@ -1,10 +1,10 @@
 -- What `framelist` and `salvagelist` write of an input: document 01, the last part of "Both sides of each edge".
 use Prim.Native.Nat.{ℕ, zero, suc, _-_}
 use mathlib.Core.List.{List, [], _∷_, _++_}
-use lib.Dec.{eqb, leb}
+use lib.Dec.{leb}
 use lib.ListN.{length}
 use Rattle.wire.specs.Bytes.{pick}
-use Rattle.answer.specs.Numbers.{numberOf}
+use Rattle.answer.specs.Numbers.{notWhole}
 use Rattle.text.specs.Texts.{text}
 use Rattle.dss_frame.specs.declared.Rules.{Rules}
 use Rattle.dss_frame.specs.declared.Rules.the-variants.{Reader, Salvage}
@@ -23,10 +23,10 @@ endLine s p = endText p (length s - p)
 
 -- ---- framelist
 
--- "frame by frame": a frame's line, and on from its end. "Answer 1 leads to the end line; any other refusal prints .. in its place"
+-- "frame by frame": a frame's line, and on from its end. "Answer 1 leads to the end line", as does 16; "any other refusal prints .. in its place"
 abbrev pub lineOn : List ℕ → ℕ → Read → (ℕ → List ℕ) → List ℕ
 lineOn s p (frame f) more = frameLine s p f ++ more (endOf p (f .segments))
-lineOn s p (refused r) more = pick (eqb (numberOf (r .why)) 1) (endLine s p) (refusedText r)
+lineOn s p (refused r) more = pick (notWhole (r .why)) (endLine s p) (refusedText r)
 
 unfoldable pub linesFuel : ℕ → List ℕ → ℕ → List ℕ
 unfolding payloadOf endOf readAt frameText endText refusedText

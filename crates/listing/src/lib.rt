@@ -12,7 +12,7 @@ use dss_salvage::Step;
 // The most bytes that are read.
 pub const MOST: usize = 65536;
 
-// Frame by frame, until one isn't whole or is refused.
+// Frame by frame, until one isn't whole, yet or ever, or is refused.
 pub(crate) fn put_frames(run: &[u8], room: &mut [u8]) -> usize
     ensures { λ r. ⌜ Puts (framesText (now (run .entry))) (now (room .entry)) 0 r (now (room .exit)) ⌝ }
 {
@@ -26,7 +26,7 @@ pub(crate) fn put_frames(run: &[u8], room: &mut [u8]) -> usize
             }
             Measured::Refused(refused) => {
                 let why = refused.why;
-                if why.number() == 1 {
+                if why.not_whole() {
                     return lines::put_end(room, at, position, run.len() - position);
                 }
                 return lines::put_refused(room, at, refused);

@@ -5,8 +5,8 @@ use crate::{port, Result};
 /// A frame with new bytes in the first parameter of a code point, the frame being one with one object. Its format byte, whatever
 /// flags it has, and its correlation stay; its segments are those that the writer cuts for the new size.
 ///
-/// In this order: `Incomplete` and the errors of its head; `UnsoundData` where bytes are left over; the errors of its object;
-/// `UnsoundData` of the object and its parameters; `NotFound`; `UnreadableSize`. A place is a byte of `frame`.
+/// In this order: `Incomplete` or `DeadContinuation`; the errors of its head; `UnsoundData` where bytes are left over; the errors
+/// of its object; `UnsoundData` of the object and its parameters; `NotFound`; `UnreadableSize`. A place is a byte of `frame`.
 ///
 /// ```
 /// use lattrugone::ddm::DdmBuilder;

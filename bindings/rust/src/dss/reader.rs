@@ -64,9 +64,36 @@ impl DssReader {
         port::remaining(&self.buffer, self.position)
     }
 
-    /// Where it stands: added. After an error other than for want of bytes, that is the head that was refused.
+    /// Where it stands: added. After an error, that is the head that was refused; where a frame isn't whole, it stays.
     pub fn position(&self) -> usize {
         self.position
+    }
+
+    /// Where the next frame has a continuation length of 0 or 1, so that it is never whole; none where it is whole, or may become
+    /// so: added. After [`DssReader::next_frame`] gave none this says whether to wait for more bytes: where there is a place, none
+    /// that arrive can help, and the connection is to be given up. The place is that length's first byte, counted as
+    /// [`DssReader::position`] is, which stays at the frame's. It is asked anew of the bytes each time.
+    ///
+    /// ```
+    /// use lattrugone::dss::{build_dss_object, DssReader};
+    ///
+    /// # fn main() -> lattrugone::Result<()> {
+    /// let mut frame = build_dss_object(1, false, &[0xF0; 40000]);
+    /// frame[32767..32769].copy_from_slice(&[0, 1]);
+    /// let mut reader = DssReader::new(frame[..32768].to_vec());
+    /// assert!(reader.next_frame()?.is_none());
+    /// assert_eq!(reader.dead_at(), None);
+    /// reader.extend(&frame[32768..]);
+    /// assert!(reader.next_frame()?.is_none());
+    /// assert_eq!((reader.dead_at(), reader.position()), (Some(32767), 0));
+    /// # Ok(())
+    /// # }
+    /// ```
+    pub fn dead_at(&self) -> Option<usize> {
+        match ask(|words| port::frame_end(&self.buffer, self.position, words)) {
+            Err(refusal) if refusal.is_never_whole() => Some(refusal.place()),
+            _ => None,
+        }
     }
 
     /// Whether the next frame is whole.
@@ -80,7 +107,7 @@ impl DssReader {
         Some(words[2] as usize)
     }
 
-    /// The next frame, or none where it isn't whole yet.
+    /// The next frame, or none where it isn't whole: yet, or ever, which [`DssReader::dead_at`] tells apart.
     pub fn next_frame(&mut self) -> Result<Option<DssFrame>> {
         Ok(self.next_frame_counted()?.map(|(frame, _)| frame))
     }
@@ -103,7 +130,7 @@ impl DssReader {
         }
     }
 
-    /// All frames that are whole. Where one is refused, all are.
+    /// All frames up to the first that isn't whole. Where one is refused, all are.
     pub fn read_all_frames(&mut self) -> Result<Vec<DssFrame>> {
         let read = Loan::of(|loan| {
             let (room, row, words) = (&mut loan.room, &mut loan.row, &mut loan.words);
@@ -121,7 +148,7 @@ impl DssReader {
         self.buffer.split_off(self.position)
     }
 
-    /// A refusal's place is where the position then stands.
+    /// The head that is refused is where the position then stands. Not so where a frame isn't whole, which is no error.
     fn refused(&mut self, refusal: Refusal) -> ProtoError {
         self.position = refusal.place();
         refusal.error()

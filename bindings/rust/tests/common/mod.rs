@@ -15,6 +15,16 @@ pub fn pattern(len: usize) -> Vec<u8> {
     (0..len).map(|at| (at * 31 + at / 256) as u8).collect()
 }
 
+/// A frame of so many full segments, and behind them, as its last two bytes, the length of another: with 0 or 1 it is never whole.
+pub fn full_segments(segments: usize, next: u16) -> Vec<u8> {
+    let mut frame = [hex("FFFF D003 0001"), pattern(32761)].concat();
+    for _ in 1..segments {
+        frame.extend([hex("FFFF"), pattern(32765)].concat());
+    }
+    frame.extend(next.to_be_bytes());
+    frame
+}
+
 /// Numbers that look random and are the same each time.
 pub struct Numbers(pub u64);
 

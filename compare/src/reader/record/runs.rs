@@ -5,8 +5,8 @@ use crate::record::counted;
 use crate::Chance;
 use db2_proto::dss::{DssType, DssWriter};
 
-/// Document 01's cases and every other pair of them, damaged and cut ones, frames around each edge, continuations, long segments, random
-/// ones. The salvage reading reads the same.
+/// Document 01's cases and every other pair of them, damaged and cut ones, frames around each edge, continuations, lengths of 0
+/// and 1 among them, long segments, random ones. The salvage reading reads the same.
 pub fn all(chance: &mut Chance) -> Vec<Vec<u8>> {
     let mut all = Vec::new();
     for (i, first) in PAPER.into_iter().enumerate() {
@@ -29,6 +29,9 @@ pub fn all(chance: &mut Chance) -> Vec<Vec<u8>> {
     all.extend(edges());
     all.extend(continuations());
     all.extend(absorbed());
+    for (full, raw) in [(0, 0), (0, 1), (2, 0), (2, 1)] {
+        all.extend(dead(full, raw));
+    }
     all
 }
 
@@ -108,5 +111,27 @@ fn absorbed() -> Vec<Vec<u8>> {
             all.push(run);
         }
     }
+    all
+}
+
+/// A continuation length of 0 or 1 behind so many full ones: the run ends with its first byte, with the length, with a frame
+/// behind it; that behind another frame; and with another magic.
+pub fn dead(full: usize, raw: u8) -> Vec<Vec<u8>> {
+    let mut run = frame(0xFFFF, 0x43, 7, &counted(32_761, 11));
+    for i in 0..full {
+        run.extend([[0x7F, 0xFF], [0xFF, 0xFF]][i % 2]);
+        run.extend(counted(32_765, 12));
+    }
+    let place = run.len();
+    run.extend([0, raw]);
+    run.extend(framed(0x13, 7, &[0xC1, 0xC2]));
+    let mut all = Vec::new();
+    for end in [place + 1, place + 2, run.len()] {
+        all.push(run[..end].to_vec());
+    }
+    all.push([&framed(0x42, 7, &[0xC1])[..], &run].concat());
+    run[2] = 0xD1;
+    all.push(run[..place + 2].to_vec());
+    all.push(run);
     all
 }

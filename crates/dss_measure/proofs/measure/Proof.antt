@@ -22,14 +22,14 @@ returns-2 c =
     let a = w .before .before .before .args in
     sym (measured-short (a .rules) (a .run .now) (a .at) (w .before .if1 .left) (sym (w .walk-frame .ensures) ∙ c .enum-told .given .1))
 
-enum-told-2 : tie.Need-enum-told-2
-enum-told-2 c = search needs
+enum-known-place : tie.Need-enum-known-place
+enum-known-place c = search needs
 
 returns-3 : tie.Need-returns-3
 returns-3 c =
-    let w = c .before .before in
+    let w = c .before .before .before in
     let a = w .before .before .before .args in
-    sym (measured-dead (a .rules) (a .run .now) (a .at) _ (w .before .if1 .left) (sym (w .walk-frame .ensures) ∙ c .enum-told2 .given .1))
+    sym (measured-dead (a .rules) (a .run .now) (a .at) _ (w .before .if1 .left) (sym (w .walk-frame .ensures) ∙ c .before .place .given .1))
 
 enum-known-end : tie.Need-enum-known-end
 enum-known-end c = search needs
@@ -48,7 +48,7 @@ measure-spec =
     walk-frame-requires
     enum-told
     returns-2
-    enum-told-2
+    enum-known-place
     returns-3
     enum-known-end
     measure-whole-requires

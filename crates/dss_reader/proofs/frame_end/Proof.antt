@@ -17,8 +17,8 @@ enum-known-end c = search needs
 enum-told : tie.Need-enum-told
 enum-told c = search needs
 
-enum-told-2 : tie.Need-enum-told-2
-enum-told-2 c = search needs
+enum-known-place : tie.Need-enum-known-place
+enum-known-place c = search needs
 
 returns-2 : tie.Need-returns-2
 returns-2 c =
@@ -32,8 +32,8 @@ returns-3 c =
 
 returns-4 : tie.Need-returns-4
 returns-4 c =
-    let w = c .before .before in
-    sym (end-dead _ _ (w .before .if1 .left) _ (sym (w .walk-frame .ensures) ∙ c .enum-told2 .given .1))
+    let w = c .before .before .before in
+    sym (end-dead _ _ (w .before .if1 .left) _ (sym (w .walk-frame .ensures) ∙ c .before .place .given .1))
 
 pub frame-end-spec : {M : Type 1} → statement M
 frame-end-spec =
@@ -43,7 +43,7 @@ frame-end-spec =
     walk-frame-requires
     enum-known-end
     enum-told
-    enum-told-2
+    enum-known-place
     returns-2
     returns-3
     returns-4)

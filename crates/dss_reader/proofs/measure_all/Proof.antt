@@ -29,8 +29,8 @@ measure-extent-requires c κs = search needs
 enum-known-refused : tie.Need-enum-known-refused Inv-loop μ-loop
 enum-known-refused c = search needs
 
-number-requires : tie.Need-number-requires Inv-loop μ-loop
-number-requires c κs = search needs
+not-whole-requires : tie.Need-not-whole-requires Inv-loop μ-loop
+not-whole-requires c κs = search needs
 
 -- the refusal that was found
 not-read : (c : tie.After-known-told Inv-loop μ-loop)
@@ -41,12 +41,12 @@ not-read c = measured-not Reader _ _ _ (not-spanned _ _ (sym (c .before .before 
 returns : tie.Need-returns Inv-loop μ-loop
 returns c =
     let n = c .before .before in
-    sym (n .before .before .before .before .loop .inv .2 ∙ all-end _ _ _ _ _ (not-read n) (sym (c .before .number .ensures) ∙ c .if1 .taken))
+    sym (n .before .before .before .before .loop .inv .2 ∙ all-end _ _ _ _ _ (not-read n) (sym (c .before .not-whole .ensures) ∙ c .if1 .taken))
 
 returns-2 : tie.Need-returns-2 Inv-loop μ-loop
 returns-2 c =
     let n = c .before .before in
-    sym (n .before .before .before .before .loop .inv .2 ∙ all-refused _ _ _ _ _ (not-read n) (λ e. c .if1 .left (c .before .number .ensures ∙ e)))
+    sym (n .before .before .before .before .loop .inv .2 ∙ all-refused _ _ _ _ _ (not-read n) (sym (c .before .not-whole .ensures) ∙ c .if1 .left))
 
 enum-known-payload-len : tie.Need-enum-known-payload-len Inv-loop μ-loop
 enum-known-payload-len c = search needs
@@ -93,7 +93,7 @@ measure-all-spec =
     loop-holds
     measure-extent-requires
     enum-known-refused
-    number-requires
+    not-whole-requires
     returns
     returns-2
     enum-known-payload-len

@@ -1,7 +1,8 @@
 -- `dss_reader::measure_frames` meets its contract: a refusal, 9 and the frames by their laws, from what measuring counted.
-use mathlib.Core.Path.{sym, _∙_}
+use mathlib.Core.Path.{sym, ap, _∙_}
 use Rattle.dss_reader.specs.Measuring.{Counted, all-counted, all-not}
 use Rattle.dss_reader.specs.Gathered.{answers-refused, wide-bytes, wide-records, answers-none, answers-frames}
+use Rattle.dss_reader.specs.declared.FramesRead.the-variants.{Refused as NoneRead}
 use borrow.Author.Needs.{needs}
 use Rattle.dss_reader.proofs.measure_frames.Statement.{statement}
 use Rattle.dss_reader.proofs.measure_frames.Tie as tie
@@ -39,8 +40,13 @@ returns-2 c =
     let a = n .before .before .before .before .args in
     answers-none (a .size) (a .rows) (told n) _ (wide-records (a .size) (a .rows) (told n) (c .before .if2 .taken)) (c .no-room2 .ensures)
 
+left-at-requires : tie.Need-left-at-requires
+left-at-requires c κs = search needs
+
 returns-3 : tie.Need-returns-3
-returns-3 c = answers-refused _ _ _ _ _ (all-not _ _ _ (sym (c .before .before .before .measure-all .ensures) ∙ c .before .refused .given .1))
+returns-3 c =
+    let k = c .before .before .before .before in
+    ap (NoneRead (c .before .before .refused .given .0 .0)) (c .left-at .ensures) ∙ answers-refused _ _ _ _ _ (all-not _ _ _ (sym (k .measure-all .ensures) ∙ c .before .before .refused .given .1))
 
 returns-4 : tie.Need-returns-4
 returns-4 c =
@@ -54,6 +60,7 @@ measure-frames-spec =
     (tie.spec
     measure-all-requires
     enum-known-refused
+    left-at-requires
     enum-known-count
     no-room-requires
     returns

@@ -56,8 +56,8 @@ not-read : (c : tie.After-known-told2 Inv-loop μ-loop)
     readAt Reader (m .before .before .before .args .run .now) (m .loop .position) ≡ refused (c .before .refused .given .0 .0))
 not-read c = measured-not Reader _ _ _ (sym (c .before .before .before .measure .ensures) ∙ c .before .refused .given .1)
 
-number-requires : tie.Need-number-requires Inv-loop μ-loop
-number-requires c κs = search needs
+not-whole-requires : tie.Need-not-whole-requires Inv-loop μ-loop
+not-whole-requires c κs = search needs
 
 sub-put-end : tie.Need-sub-put-end Inv-loop μ-loop
 sub-put-end c = omega arith
@@ -68,7 +68,7 @@ put-end-requires c κs = search needs
 returns : tie.Need-returns Inv-loop μ-loop
 returns c =
     let n = c .before .before .before .before .before .before in
-    leads-last _ (leads-as (lines-end _ _ _ (not-read n) (sym (c .before .before .before .before .before .number .ensures) ∙ c .before .before .before .before .if1 .taken)) (n .before .before .before .before .loop .inv .1)) (c .before .before .put-end .ensures)
+    leads-last _ (leads-as (lines-end _ _ _ (not-read n) (sym (c .before .before .before .before .before .not-whole .ensures) ∙ c .before .before .before .before .if1 .taken)) (n .before .before .before .before .loop .inv .1)) (c .before .before .put-end .ensures)
 
 same-length : tie.Need-same-length Inv-loop μ-loop
 same-length c = puts-length (returns c)
@@ -79,7 +79,7 @@ put-refused-requires c κs = search needs
 returns-2 : tie.Need-returns-2 Inv-loop μ-loop
 returns-2 c =
     let n = c .before .before .before .before .before .before in
-    leads-last _ (leads-as (lines-refused _ _ _ (not-read n) (λ e. c .before .before .before .before .if1 .left (c .before .before .before .before .before .number .ensures ∙ e))) (n .before .before .before .before .loop .inv .1)) (c .before .before .put-refused .ensures)
+    leads-last _ (leads-as (lines-refused _ _ _ (not-read n) (sym (c .before .before .before .before .before .not-whole .ensures) ∙ c .before .before .before .before .if1 .left)) (n .before .before .before .before .loop .inv .1)) (c .before .before .put-refused .ensures)
 
 same-length-2 : tie.Need-same-length-2 Inv-loop μ-loop
 same-length-2 c = puts-length (returns-2 c)
@@ -97,7 +97,7 @@ put-frames-spec =
     loop-less
     loop-again
     enum-known-refused
-    number-requires
+    not-whole-requires
     sub-put-end
     put-end-requires
     same-length

@@ -1,4 +1,4 @@
--- `ddm_change::request::alone` meets its contract: 1 by its laws, and a whole frame by what `alone_head` ensures.
+-- `ddm_change::request::alone` meets its contract: 1 and 16 by their laws, and a whole frame by what `alone_head` ensures.
 use mathlib.Core.Path.{sym, _∙_}
 use borrow.Author.Needs.{needs}
 use Rattle.ddm_change.specs.AloneLaws.{alone-short, alone-dead}
@@ -16,13 +16,13 @@ returns c =
     let w = c .before .before in
     sym (alone-short (w .before .before .args .frame .now) (sym (w .walk-frame .ensures) ∙ c .enum-told .given .1))
 
-enum-told-2 : tie.Need-enum-told-2
-enum-told-2 c = search needs
+enum-known-place : tie.Need-enum-known-place
+enum-known-place c = search needs
 
 returns-2 : tie.Need-returns-2
 returns-2 c =
-    let w = c .before .before in
-    sym (alone-dead (w .before .before .args .frame .now) _ (sym (w .walk-frame .ensures) ∙ c .enum-told2 .given .1))
+    let w = c .before .before .before in
+    sym (alone-dead (w .before .before .args .frame .now) _ (sym (w .walk-frame .ensures) ∙ c .before .place .given .1))
 
 enum-known-end : tie.Need-enum-known-end
 enum-known-end c = search needs
@@ -40,7 +40,7 @@ alone-spec =
     walk-frame-requires
     enum-told
     returns
-    enum-told-2
+    enum-known-place
     returns-2
     enum-known-end
     alone-head-requires

@@ -1,6 +1,6 @@
 -- `dss_reader::DssReader::next_frame` meets its contract: what taking answered, as the reader's answer.
-use Rattle.dss_measure.specs.declared.Measured.the-variants.{Frame as Measures, Refused as NotMeasured}
-use Rattle.dss_reader.specs.Taking.{next-is}
+use Rattle.dss_measure.specs.declared.Measured.the-variants.{Frame as Measures}
+use Rattle.dss_reader.specs.Taking.{next-is, next-refused}
 use borrow.Author.Needs.{needs}
 use Rattle.dss_reader.proofs.DssReader.next_frame.Statement.{statement}
 use Rattle.dss_reader.proofs.DssReader.next_frame.Tie as tie
@@ -26,11 +26,14 @@ returns c =
 same-length-2 : tie.Need-same-length-2
 same-length-2 c = search needs
 
+left-at-requires : tie.Need-left-at-requires
+left-at-requires c κs = search needs
+
 returns-2 : tie.Need-returns-2
 returns-2 c =
-    let k = c .before .before .before .before .before in
+    let k = c .before .before .before .before .before .before in
     let a = k .before .before .before .before .args in
-    next-is (a .run .now) (a .self .position) (a .room .now) (NotMeasured _) (k .take .result) _ (k .take .ensures) (c .before .refused .given .1)
+    next-refused (a .run .now) (a .self .position) (a .room .now) _ _ (k .take .result) _ (k .take .ensures) (c .before .before .refused .given .1) (c .left-at .ensures)
 
 pub next-frame-spec : {M : Type 1} → statement M
 next-frame-spec =
@@ -39,6 +42,7 @@ next-frame-spec =
     take-requires
     enum-known-measure
     enum-known-refused
+    left-at-requires
     same-length
     returns
     same-length-2
