@@ -11,7 +11,7 @@ use contract.Lifetimes.{Lfts}
 use denote.Ref.{RefT, at-last}
 use Rattle.wire.specs.Laws.{picked, pick-yes}
 use Rattle.answer.specs.Numbers.{numberOf}
-use Rattle.answer.specs.Rooms.{noRoom, outOfBounds}
+use Rattle.answer.specs.Rooms.{noRoom}
 use Rattle.answer.specs.declared.Refused.{Refused}
 use Rattle.dss_frame.specs.declared.Rules.the-variants.{Reader}
 use Rattle.dss_frame.specs.Segments.{payloadOf}

@@ -1,6 +1,6 @@
 -- The statements on layouts: structures that meet their premises, what is written or read besides and is no structure of the
 -- volume, and what each statement rules out.
-use Prim.Native.Nat.{ℕ, zero, suc, _+_, _%_, _≤_, _<_}
+use Prim.Native.Nat.{ℕ, _+_, _%_, _≤_, _<_}
 use native.Mathlib.Omega.{arith}
 use mathlib.Core.Path.{_≡_, refl, sym, ap, _∙_}
 use mathlib.Core.Bool.{Bool, true, false}
@@ -26,6 +26,7 @@ use Rattle.dss_frame.specs.Written.{Sent, headOf, chunks, written}
 use Rattle.dss_laws.specs.Writing.{written-single, written-several}
 use Rattle.layouts.specs.DssLayout.{Structure, Allowed, ends, Dss, one, several, EndsFull, FullLast, rest}
 use Rattle.demands.specs.Layouts.{structureOf, WritesLayout, ReadAs, ReadsLayout, WaitsBehindFull, RefusesFive, LayoutFixes, NoLayout}
+use Rattle.demands.proofs.Mending.{octets-same}
 use Rattle.demands.proofs.Impostors.{empty, sendable, frame-refused, same-frame}
 use Rattle.demands.proofs.WrittenLayout.{allowed-sent, writes-layout}
 use Rattle.demands.proofs.FaithfulLayout.{allowed-in, told-at}
@@ -124,11 +125,6 @@ cut x y h k o =
       short = λ e. e;
     }
 
-all-same : (n b : ℕ) → b < 256 → Octets (replicate n b)
-all-same zero b h k = omega arith
-all-same (suc n) b h zero = h
-all-same (suc n) b h (suc k) = all-same n b h k
-
 -- so many bytes C1
 abbrev pub filling : ℕ → List ℕ
 filling n = replicate n 0xC1
@@ -139,7 +135,7 @@ filling-length n = length-replicate {A = ℕ} n 0xC1
 pub filled : (n : ℕ) → n ≤ 32765 → Cut (filling 32761) (filling n)
 filled n h =
     cut (filling 32761) (filling n) (filling-length 32761) (omega (arith, filling-length n))
-    (octets-append (filling 32761) (filling n) (all-same 32761 0xC1 (omega arith)) (all-same n 0xC1 (omega arith)))
+    (octets-append (filling 32761) (filling n) (octets-same 32761 0xC1 (omega arith)) (octets-same n 0xC1 (omega arith)))
 
 -- a last chunk of one byte is read, and a full one is waited behind
 pub two-chunks-read : ReadAs (readAt Reader) (object (filling 32761 ++ filling 1)) (twoChunks (filling 32761) (filling 1))

@@ -19,7 +19,7 @@ use Rattle.dss_frame.specs.declared.Rules.the-variants.{Reader}
 use Rattle.dss_frame.specs.Segments.{endOf}
 use Rattle.dss_frame.specs.Reading.{Read, frame, refused, Frame, readWalk, readAt}
 use Rattle.dss_frame.specs.Frames.{AllRead, frames, refusedAll, before, andOn, framesFuel, allFrames}
-use Rattle.demands.specs.Longer.{Unsettled, OfHead, AllRefusalsStay}
+use Rattle.demands.specs.Longer.{Unsettled, AllRefusalsStay}
 use Rattle.dss_laws.specs.Bounds.{OfFrame, is-frame, is-refused, Past, read-past}
 use Rattle.dss_laws.specs.AllFrames.{frames-more, frames-refused}
 use Rattle.demands.proofs.LongerLooks.{unsettled-short}

@@ -1,7 +1,7 @@
 -- 16 is exactly what no further bytes can mend: a walk that is short is whole with some bytes more, by what it is short of.
-use Prim.Native.Nat.{ℕ, zero, suc, _+_, _-_, _*_, _≤_, _<_}
+use Prim.Native.Nat.{ℕ, zero, suc, _+_, _-_, _≤_, _<_}
 use native.Mathlib.Omega.{arith}
-use mathlib.Core.Path.{_≡_, refl, sym, ap, subst, _∙_}
+use mathlib.Core.Path.{_≡_, refl, sym, ap, _∙_}
 use mathlib.Core.Bool.{Bool, true, false}
 use mathlib.Core.Logic.{_↔_, inl, inr}
 use mathlib.Core.List.{List, [], _∷_, _++_, append-assoc}
@@ -13,21 +13,17 @@ use Rattle.wire.specs.Bytes.{be16, or}
 use Rattle.wire.specs.Laws.{by, pick-by, pick-yes, pick-no, be16-front, be16-behind, true-false}
 use Rattle.wire.specs.Octets.{Octets, octets-none, octets-more, octets-append}
 use Rattle.answer.specs.Numbers.{numberOf, notWhole}
-use Rattle.answer.specs.declared.Refusal.the-variants.{Incomplete, DeadContinuation}
 use Rattle.answer.specs.declared.Refused.{Refused}
 use Rattle.dss_head.specs.Heads.{headAt}
 use Rattle.dss_head.specs.declared.Chunk.{Chunk}
 use Rattle.dss_head.specs.declared.Chunk.the-variants.{Dead, Last, Full}
-use Rattle.dss_head.specs.declared.DssHeader.{DssHeader}
 use Rattle.dss_head.specs.declared.HeadFound.{HeadFound}
 use Rattle.dss_frame.specs.Rules.{chunkUnder}
 use Rattle.dss_frame.specs.declared.Rules.{Rules}
-use Rattle.dss_frame.specs.declared.Rules.the-variants.{Reader, Salvage}
 use Rattle.dss_frame.specs.Segments.{Segment, Walk, whole, short, dead, behind, continuation, first, step, continuations, frameWalk}
-use Rattle.dss_frame.specs.Reading.{Read, frame, refused, Frame, absorb, readHead, readWalk, readAt, positionLeft, positionAfter}
+use Rattle.dss_frame.specs.Reading.{Read, frame, refused, absorb, readHead, readWalk, readAt, positionAfter}
 use Rattle.dss_laws.specs.RawLengths.{chunk-last, chunk-alive}
-use Rattle.dss_laws.specs.Continuations.{continuations-step, continuations-short, continuations-last, continuations-full}
-use Rattle.demands.specs.Longer.{OfHead}
+use Rattle.dss_laws.specs.Continuations.{continuations-step, continuations-last, continuations-full}
 use Rattle.demands.specs.Mending.{waits, Mended, StopsWaiting}
 use Rattle.demands.proofs.LongerRuns.{HeadSays, finds, refuses-head, head-says, walk-few}
 use Rattle.demands.proofs.Longer.{On, on-frame, on-refused, absorb-on, head-refuses, same-refused, refusals-stay, dead-stays}
@@ -43,9 +39,12 @@ record Mends (walk : List ℕ → Walk) (s : List ℕ) : Type 0 where
 abbrev zeros : ℕ → List ℕ
 zeros n = replicate n 0
 
+pub octets-same : (n b : ℕ) → b < 256 → Octets (replicate n b)
+octets-same zero b h = octets-none
+octets-same (suc n) b h = octets-more b (replicate n b) h (octets-same n b h)
+
 octets-zeros : (n : ℕ) → Octets (zeros n)
-octets-zeros zero = octets-none
-octets-zeros (suc n) = octets-more 0 (zeros n) (omega arith) (octets-zeros n)
+octets-zeros n = octets-same n 0 (omega arith)
 
 -- with some bytes, then with more
 mends-later : (walk : List ℕ → Walk) (s t : List ℕ) → Octets t → Mends walk (s ++ t) → Mends walk s

@@ -3,22 +3,23 @@
 use Prim.Native.Nat.{ℕ}
 use native.Mathlib.Omega.{arith}
 use mathlib.Core.Path.{_≡_, refl, sym, ap, _∙_}
+use mathlib.Core.Bool.{true}
 use mathlib.Core.List.{List, [], _∷_, _++_, append-nil}
-use lib.Dec.{eqb}
 use Rattle.wire.specs.Bytes.{pick}
+use Rattle.wire.specs.Octets.{Octets}
 use Rattle.answer.specs.Numbers.{numberOf, notWhole}
 use Rattle.answer.specs.declared.Refusal.the-variants.{Incomplete, DeadContinuation}
 use Rattle.answer.specs.declared.Refused.{Refused}
 use Rattle.dss_frame.specs.declared.Rules.the-variants.{Reader as AsReader}
 use Rattle.dss_frame.specs.Segments.{endOf, dead, frameWalk, continuations, walkFuel}
-use Rattle.dss_frame.specs.Reading.{Read, frame, refused, readAt, absorb, absorbFuel, look, positionAfter}
+use Rattle.dss_frame.specs.Reading.{Read, frame, refused, readAt, positionAfter}
 use Rattle.demands.specs.Demands.{Reader}
 use Rattle.demands.specs.Table.{p2}
-use Rattle.demands.specs.Mending.{Stand, Mended, StopsWaiting}
+use Rattle.demands.specs.Mending.{Stand, waits, Mended, StopsWaiting}
 use Rattle.demands.specs.DeadEdges.{fulls, several}
 use Rattle.demands.proofs.Longer.{same-refused, frame-refused}
 use Rattle.demands.proofs.LongerExamples.{reply, one-before, one-frame}
-use Rattle.demands.proofs.Mending.{stops-waiting}
+use Rattle.demands.proofs.Mending.{stops-waiting, exactly-dead}
 
 -- ---- met: a first continuation length of 1, and two bytes of a head
 
@@ -45,6 +46,10 @@ stays t = stops-waiting AsReader .never stuck t 0 dead-there (omega arith) dies-
 
 pub mended : Mended AsReader (readAt AsReader) (0x00 ∷ 0x06 ∷ []) 0
 mended = stops-waiting AsReader .yet (0x00 ∷ 0x06 ∷ []) 0 (record { why = Incomplete; place = 0 }) (omega arith) one-before refl .1
+
+-- and no bytes make the first whole
+pub exactly : (t : List ℕ) → Octets t → waits (readAt AsReader (stuck ++ t) 0) ≡ true
+exactly = exactly-dead AsReader (readAt AsReader) (λ s p. positionAfter p (readAt AsReader s p)) (stops-waiting AsReader) stuck 0 dead-there (omega arith) dies-alone refl .0 refl
 
 -- ---- ruled out
 
