@@ -133,7 +133,7 @@ enum lattrugone_format {
     LATTRUGONE_CHAINED = 0x40
 };
 
-/* What decide_continuation says of a continuation's length. */
+/* What decide_continuation says of a continuation's length: the reader's rule. For salvage 7FFF is the last one, too. */
 enum lattrugone_continuation {
     LATTRUGONE_DEAD = 0,                 /* 0 and 1: the frame is NEVER_WHOLE */
     LATTRUGONE_LAST = 1,                 /* 2 to 7FFE, 8000 to FFFE: the last one */
@@ -255,7 +255,9 @@ uint8_t lattrugone_first_frame_end(const uint8_t *run, size_t run_len, uint64_t 
  * only a part of a segment stand behind the frame, segments yet to arrive may still have belonged to it; once a frame stands
  * behind it that is whole or is never whole (frame_end at words[FRAME_BEHIND] isn't NOT_WHOLE), nothing that arrives changes it.
  * A frame whose last chunk is full (0x7FFF: a payload of 32,761 and one or more times 32,765 bytes) is taken for one that goes
- * on: alone it is NOT_WHOLE, and with a frame behind it THAT FRAME IS TAKEN FOR ITS NEXT CHUNK and is lost, with no refusal. */
+ * on: alone it is NOT_WHOLE, and with a frame behind it THAT FRAME IS TAKEN FOR ITS NEXT CHUNK and is lost, with no refusal. What
+ * is read has three segments or more then, and salvage of its bytes, from `at` to words[FRAME_BEHIND], hands out the frames that
+ * stand there, each by itself; where none was swallowed, it hands out this one. */
 uint8_t lattrugone_next_frame(const uint8_t *run, size_t run_len, size_t at, uint8_t *room, size_t room_len, uint64_t *words,
                               size_t words_len);
 
@@ -268,9 +270,10 @@ uint8_t lattrugone_next_frame(const uint8_t *run, size_t run_len, size_t at, uin
 uint8_t lattrugone_read_all_frames(const uint8_t *run, size_t run_len, size_t at, uint8_t *room, size_t room_len, uint64_t *row,
                                    size_t row_len, uint64_t *words, size_t words_len);
 
-/* The salvage reading: all that can be read of a run, from byte 0. It goes as read_all_frames does, with two changes: a head
- * refused while looking for segments to absorb closes the frame; and a whole frame whose own head is refused becomes an entry
- * and is stepped over, or ends the walk where its length is below 6.
+/* The salvage reading: all that can be read of a run, from byte 0. It goes as read_all_frames does, with three changes: a head
+ * refused while looking for segments to absorb closes the frame; a whole frame whose own head is refused becomes an entry and is
+ * stepped over, or ends the walk where its length is below 6; and a continuation of length 0x7FFF is the frame's last, so that no
+ * size is lost and none swallows the frame behind it.
  * An entry is a record in the row. A frame's is as read_all_frames has it: the number 0, words[FRAME_PAYLOAD_AT] and so on. A
  * refusal's is its number (BAD_MAGIC, BAD_TYPE, LENGTH_TOO_SHORT), its place, its value.
  * DONE: words[LIST_COUNT] how many entries, words[LIST_BYTES] how many bytes of the room, words[LIST_TAIL] where the walk ended:
@@ -278,7 +281,8 @@ uint8_t lattrugone_read_all_frames(const uint8_t *run, size_t run_len, size_t at
  * tail says which. The one refusal is NO_ROOM, at 0. A room as long as the run and a row of run_len / 6 records are always
  * enough.
  * The lengths lead from frame to frame: where one is damaged, or bytes are missing or too many, what stands behind isn't found.
- * A full last chunk swallows the frame behind it, as in next_frame. */
+ * Of a run that read_all_frames reads from 0 on without refusal, room and row are the same, if no continuation in it has length
+ * 0x7FFF. */
 uint8_t lattrugone_salvage(const uint8_t *run, size_t run_len, uint8_t *room, size_t room_len, uint64_t *row, size_t row_len,
                            uint64_t *words, size_t words_len);
 

@@ -53,16 +53,35 @@ static const char *receive_more(struct connection *c)
     return NULL;
 }
 
+static unsigned length_at(const struct connection *c, size_t at)
+{
+    return c->area[at] * 256u + c->area[at + 1];
+}
+
+/* Where salvage steps to from the frame at `place`, with all of its head; `place` where the frame isn't whole. A continuation of
+ * length 7FFF is salvage's last, where frame_end goes on. */
+static size_t salvage_end(const struct connection *c, size_t place)
+{
+    uint64_t words[LATTRUGONE_WORDS];
+    size_t at = place;
+
+    while (c->filled - at >= 32769 && length_at(c, at) == 0xFFFF)
+        at += 32767; /* to the next length, which is there */
+    if (at > place && c->filled - at >= 32767 && length_at(c, at) == 0x7FFF)
+        return at + 32767;
+    if (lattrugone_frame_end(c->area, c->filled, place, words, LATTRUGONE_WORDS) != LATTRUGONE_DONE)
+        return place;
+    return words[LATTRUGONE_RESULT] < place + 6 ? place + 6 : words[LATTRUGONE_RESULT];
+}
+
 /* The head at `place` is refused. Salvage starts where the refused call did, for a frame that stands before that head is lost to
  * the call. It ends where the refused frame does, or at its head where it isn't whole, so that what stands behind is read like all
  * else: two entries are the most. Behind a length below 6 nothing can be found, whatever comes in. */
 static const char *salvage(struct connection *c, size_t place)
 {
     uint64_t words[LATTRUGONE_WORDS], row[2 * LATTRUGONE_WORDS];
-    size_t end = place;
+    size_t end = salvage_end(c, place);
 
-    if (lattrugone_frame_end(c->area, c->filled, place, words, LATTRUGONE_WORDS) == LATTRUGONE_DONE)
-        end = words[LATTRUGONE_RESULT] < place + 6 ? place + 6 : words[LATTRUGONE_RESULT]; /* with all of its head */
     if (lattrugone_salvage(c->area + c->at, end - c->at, c->room, c->room_len, row, 2 * LATTRUGONE_WORDS, words,
                            LATTRUGONE_WORDS) == LATTRUGONE_NO_ROOM)
         return lend(&c->room, &c->room_len, words[LATTRUGONE_NEEDED_BYTES]); /* then all is asked again */

@@ -1,4 +1,4 @@
-//! The salvage reading, which the Rust doesn't have: the port's against a model written from document 01 alone, on damaged runs of
+//! The salvage reading, which the Rust doesn't have: the port's against a model written from the documents alone, on damaged runs of
 //! every kind; and demand 3 directly.
 mod demand;
 pub mod model;
@@ -27,6 +27,7 @@ pub fn compare(tally: &mut Tally, chance: &mut Chance, cases: u64) {
     runs::edges(tally, &mut held, chance);
     runs::continuations(tally, &mut held, chance);
     runs::many(tally, &mut held);
+    demand::sizes(tally, &mut held, chance);
     for case in 0..cases {
         runs::random(tally, &mut held, chance);
         if case % 4 == 0 {

@@ -1,7 +1,8 @@
 //! Real traffic: the captures of the repository, read by the port and held to the lists beside them, which neither the port nor
 //! its definitions made: `next_frame` and the objects of each payload to what the Rust reads (`oracle.txt`), the salvage reading
-//! to the frames by DRDA volume 3's rule alone (`splitter.txt`), but for the frames of `misread.txt`. And the same with each
-//! continuation length spoilt in turn, to 0 and to 1: 16, where the splitter has that length.
+//! to the frames by DRDA volume 3's rule alone (`splitter.txt`), but for the frames of `misread.txt`. Where a last chunk is full, the
+//! two part, and some capture has to have one. And the same with each continuation length spoilt in turn, to 0 and to 1: 16, where
+//! the splitter has that length.
 use crate::port::RowLoan;
 use crate::{port, By, Tally};
 use std::fs;
@@ -88,6 +89,11 @@ fn of_splitter(line: &[&str]) -> Frame {
         segments: 1 + chunks as u64,
         sum: hexadecimal(line[12]),
     }
+}
+
+/// Whether a line of the splitter has a full last chunk.
+fn ends_full(line: &[&str]) -> bool {
+    line[13].split(',').next_back() == Some("7FFF")
 }
 
 /// A line of what the Rust's rules misread, behind the capture's name and its file.
@@ -203,7 +209,14 @@ fn spoilt(tally: &mut Tally, what: &str, run: &[u8], frame: &Frame, before: usiz
     }
 }
 
-fn compare_file(tally: &mut Tally, name: &str, file: &str, folder: &Path, misread: &[Frame]) {
+/// How many frames with a full last chunk it has: the reader takes what stands behind each for one chunk more.
+fn compare_file(
+    tally: &mut Tally,
+    name: &str,
+    file: &str,
+    folder: &Path,
+    misread: &[Frame],
+) -> usize {
     let run = fs::read(folder.join(format!("{file}.bin"))).expect("a capture");
     let what = format!("{name} {file}");
     let oracle = text(&folder.join("oracle.txt"));
@@ -224,10 +237,20 @@ fn compare_file(tally: &mut Tally, name: &str, file: &str, folder: &Path, misrea
     let len = run.len() as u64;
     tally.same(&format!("{what}: the end"), &[], end, [len, 1, len]);
 
-    let split: Vec<Frame> = part(&text(&folder.join("splitter.txt")), file)
+    let splitter = text(&folder.join("splitter.txt"));
+    let lines = part(&splitter, file);
+    let full: Vec<Frame> = lines
         .iter()
+        .filter(|line| ends_full(line))
         .map(|line| of_splitter(line))
         .collect();
+    for frame in &full {
+        let read = frames.iter().find(|(f, _)| f.from == frame.from);
+        let swallows = read.is_some_and(|(f, _)| f.end > frame.end);
+        let what = format!("{what}: swallows at {}", frame.end);
+        tally.held(By::Document, &what, &[], swallows, true);
+    }
+    let split: Vec<Frame> = lines.iter().map(|line| of_splitter(line)).collect();
     for frame in &split {
         let before = frames.iter().filter(|(f, _)| f.from < frame.from).count();
         spoilt(tally, &what, &run, frame, before);
@@ -243,6 +266,7 @@ fn compare_file(tally: &mut Tally, name: &str, file: &str, folder: &Path, misrea
     let (entries, tail) = salvaged(&run);
     tally.same(&format!("{what}: salvaged"), &[], entries, due);
     tally.same(&format!("{what}: the tail"), &[], tail, run.len() as u64);
+    full.len()
 }
 
 /// Each capture of a folder of captures.
@@ -257,11 +281,13 @@ pub fn compare(tally: &mut Tally, folder: &Path) {
         .collect();
     names.sort();
     assert!(!names.is_empty(), "no capture");
+    let mut full = 0;
     for name in &names {
         for file in ["sent", "received"] {
             let own = misread.iter().filter(|m| m[0] == name && m[1] == file);
             let own: Vec<Frame> = own.map(|m| of_misread(&m[2..])).collect();
-            compare_file(tally, name, file, &folder.join(name), &own);
+            full += compare_file(tally, name, file, &folder.join(name), &own);
         }
     }
+    assert!(full > 0, "no capture has a full last chunk");
 }

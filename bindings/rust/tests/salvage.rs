@@ -1,5 +1,5 @@
-//! The salvage reading. Demand 3: of any run of written frames that stand by themselves, some of them spoilt, every other frame is
-//! handed out as it was written, with one refusal at the first byte of each that is spoilt, and nothing else.
+//! The salvage reading. Demand 3: of any run of written frames that stand by themselves, of any size, some of them spoilt, every
+//! other frame is handed out as it was written, with one refusal at the first byte of each that is spoilt, and nothing else.
 mod common;
 use common::{full_segments, hex, pattern, Numbers};
 use lattrugone::ddm::build_ddm_object;
@@ -29,8 +29,11 @@ fn found(run: &[u8]) -> (Vec<Found>, usize) {
 /// A payload with which a frame stands by itself though same correlation is set: more than one segment, or an object.
 fn standing(numbers: &mut Numbers) -> Vec<u8> {
     if numbers.below(8) == 0 {
-        let len = 32762 + numbers.below(40000);
-        return numbers.bytes(if len == 65526 { 65527 } else { len });
+        let len = match numbers.below(4) {
+            0 => 65526 + 32765 * numbers.below(2), // the last chunk is full
+            _ => 32762 + numbers.below(40000),
+        };
+        return numbers.bytes(len);
     }
     let data = numbers.below(60) + 1;
     let code_point = 0x0101 + numbers.below(0xFEFE) as u16;
@@ -105,6 +108,64 @@ fn a_sound_run_is_read_as_the_reader_reads_it() {
         .map(|frame| Found::Frame(0x41, 1, frame.payload))
         .collect();
     assert_eq!(salvaged, (payloads, run.len()));
+}
+
+/// A frame whose last chunk is full and what stands behind it: the reader takes that for one chunk more, salvage hands out both.
+#[test]
+fn a_last_chunk_may_be_full() {
+    for full in [65526, 98291] {
+        for behind in [0, 5, 32761, 32762, 65526] {
+            let mut writer = DssWriter::new(1);
+            writer.write_object(&pattern(full), false);
+            let alone = writer.data().len();
+            writer.write_object(&pattern(behind), false);
+            let run = writer.finish();
+            let frames = |payloads: &[usize]| {
+                let found = |len: &usize| Found::Frame(3, 1, pattern(*len));
+                payloads.iter().map(found).collect::<Vec<_>>()
+            };
+            assert_eq!(found(&run), (frames(&[full, behind]), run.len()));
+            assert_eq!(found(&run[..alone]), (frames(&[full]), alone));
+            assert!(DssReader::new(run[..alone].to_vec())
+                .next_frame()
+                .unwrap()
+                .is_none());
+            // spoilt, it is stepped over to its own end
+            let mut spoilt = run.clone();
+            spoilt[2] = 0xD1;
+            let mut due = vec![Found::Refused(0)];
+            due.extend(frames(&[behind]));
+            assert_eq!(found(&spoilt), (due, run.len()));
+        }
+    }
+}
+
+/// What USING says to do where a frame has three segments or more: salvage of its bytes hands it out, or what it has swallowed.
+#[test]
+fn what_the_reader_swallows() {
+    for lens in [
+        [65526, 5],
+        [98291, 0],
+        [65526, 32762],
+        [98290, 5],
+        [65527, 70000],
+    ] {
+        let mut writer = DssWriter::new(1);
+        for len in lens {
+            writer.write_object(&pattern(len), false);
+        }
+        let run = writer.finish();
+        let mut reader = DssReader::new(run.clone());
+        let frame = reader.next_frame().unwrap().unwrap();
+        let behind = reader.position();
+        let full = (lens[0] - 32761) % 32765 == 0;
+        let first: Vec<_> = lens[..if full { 2 } else { 1 }]
+            .iter()
+            .map(|len| Found::Frame(3, 1, pattern(*len)))
+            .collect();
+        assert_eq!(frame.payload.len() == lens[0], !full);
+        assert_eq!(found(&run[..behind]), (first, behind));
+    }
 }
 
 #[test]

@@ -90,12 +90,12 @@ pub fn each_continued(chance: &mut Chance, behind: &[u8], mut hold: impl FnMut(&
 /// Runs with a frame that a continuation length of 0 or 1 ends, the first, the second or the third, and the frame's place. It
 /// stands alone, behind a short one and behind a long one, which doesn't look at the next head; its own head is good, has
 /// another magic or another type; and the run ends with the first byte of that length, with the length, and with a frame behind
-/// it.
+/// it. (The salvage reading doesn't come to one that stands behind 0x7FFF, its last.)
 pub fn each_dead(chance: &mut Chance, mut hold: impl FnMut(&[u8], usize)) {
     let (long, _) = continued(chance, 0x42, &[2]);
     let fronts = [Vec::new(), framed(0x42, 7, &[0xC1]), long];
     let behind = framed(0x13, 7, &[0xC1, 0xC2]);
-    for full in [&[][..], &[0xFFFF], &[0x7FFF, 0xFFFF]] {
+    for full in [&[][..], &[0xFFFF], &[0x7FFF, 0xFFFF], &[0xFFFF, 0xFFFF]] {
         for raw in [0, 1] {
             let (frame, places) = continued(chance, 0x43, &[full, &[raw]].concat());
             for front in &fronts {

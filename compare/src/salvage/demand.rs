@@ -1,6 +1,6 @@
-//! Demand 3 directly: frames that stand by themselves, written by the port or by the Rust, some of them spoilt. The salvage reading
-//! hands out "every other frame, in order and exactly as written, and one refusal at the first byte of each spoilt frame, and
-//! nothing else". What is due is made from what was sent, and nothing is read for it.
+//! Demand 3 directly: frames that stand by themselves, of any size, written by the port or by the Rust, some of them spoilt. The
+//! salvage reading hands out "every other frame, in order and exactly as written, and one refusal at the first byte of each spoilt
+//! frame, and nothing else". What is due is made from what was sent, and nothing is read for it.
 use super::Held;
 use crate::answers::{done, refused, Words};
 use crate::port::{self, Loan};
@@ -8,8 +8,10 @@ use crate::rows::{frame_words, Call, Listed};
 use crate::{By, Chance, Tally};
 use db2_proto::dss::{DssType, DssWriter};
 
-/// Payloads of two segments and more whose last one isn't full, and the longest of one segment.
-const LONG: [usize; 6] = [32_761, 32_762, 65_525, 65_527, 98_290, 98_292];
+/// The longest payloads of one to four segments, whose last one is full, and those around them.
+const LONG: [usize; 11] = [
+    32_760, 32_761, 32_762, 65_525, 65_526, 65_527, 98_290, 98_291, 98_292, 131_056, 131_057,
+];
 
 /// Once in so many frames one is long.
 const TIMES: usize = 500;
@@ -25,11 +27,7 @@ struct Sent {
 
 /// A frame that stands by itself: "when same correlation is clear, or it needs more than one segment, or its payload has at least 5
 /// bytes and starts with an object built inline with code point above 0x0100".
-fn sent(chance: &mut Chance) -> Sent {
-    let mut len = match chance.below(TIMES) {
-        0 => LONG[chance.below(LONG.len())],
-        _ => chance.below(24),
-    };
+fn sent(chance: &mut Chance, mut len: usize) -> Sent {
     let mut same_correlation = chance.below(2) == 0;
     let mut payload = chance.bytes(len);
     if same_correlation && len <= 32_761 {
@@ -128,16 +126,15 @@ impl Sent {
     }
 }
 
-/// A random list of such frames.
-pub fn random(tally: &mut Tally, held: &mut Held, chance: &mut Chance) {
+/// A run of such frames, each with whether it is to be spoilt, and what is due of them.
+fn hold(tally: &mut Tally, held: &mut Held, chance: &mut Chance, frames: &[(Sent, bool)]) {
     let (mut run, mut records, mut payloads) = (Vec::new(), Vec::new(), Vec::new());
-    for _ in 0..chance.below(9) {
-        let frame = sent(chance);
+    for (frame, spoilt) in frames {
         let mut bytes = match chance.below(2) {
             0 => frame.written_by_port(),
             _ => frame.written_by_rust(),
         };
-        if chance.below(3) == 0 {
+        if *spoilt {
             records.push(frame.spoil(chance, &mut bytes, run.len()));
         } else {
             records.push(frame.record(payloads.len()));
@@ -159,4 +156,38 @@ pub fn random(tally: &mut Tally, held: &mut Held, chance: &mut Chance) {
         make: |_, loan| port::salvage(loan),
     };
     held.hold_to(tally, &run, call, &due);
+}
+
+/// Each long size, good and spoilt: alone, before a short frame, and before another long one; and those whose last segment is full,
+/// one behind the other.
+pub fn sizes(tally: &mut Tally, held: &mut Held, chance: &mut Chance) {
+    for spoilt in [false, true] {
+        for len in LONG {
+            for lens in [&[len][..], &[len, 1, 5], &[len, 65_526, 5]] {
+                let frames: Vec<_> = lens
+                    .iter()
+                    .enumerate()
+                    .map(|(i, len)| (sent(chance, *len), spoilt && i == 0))
+                    .collect();
+                hold(tally, held, chance, &frames);
+            }
+        }
+        let full = [32_761, 65_526, 98_291, 131_056];
+        let full = full.map(|len| (sent(chance, len), spoilt));
+        hold(tally, held, chance, &full);
+    }
+}
+
+/// A random list of such frames.
+pub fn random(tally: &mut Tally, held: &mut Held, chance: &mut Chance) {
+    let mut frames = Vec::new();
+    for _ in 0..chance.below(9) {
+        let len = match chance.below(TIMES) {
+            0 => LONG[chance.below(LONG.len())],
+            _ => chance.below(24),
+        };
+        let frame = sent(chance, len);
+        frames.push((frame, chance.below(3) == 0));
+    }
+    hold(tally, held, chance, &frames);
 }

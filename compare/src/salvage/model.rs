@@ -1,5 +1,5 @@
-//! The salvage reading as document 01 has it: its sentences in its order, each above what does it. It is written from that text
-//! alone, shares nothing with the port or with the rest of the comparison, and is meant to be read beside the document.
+//! The salvage reading as document 01 has it, and document 02 where it changes that: their sentences in document 01's order, each
+//! above what does it. It is written from that text alone, shares nothing with the port or with the rest of the comparison, and is meant to be read beside the document.
 
 /// What a salvage reading hands out: entries in order, and the tail's place.
 pub struct Salvage {
@@ -120,11 +120,12 @@ fn own(run: &[u8], place: usize) -> Option<Own> {
             return None;
         }
         // "The decision by raw continuation length: 0 and 1 are never whole; 2 to 0x7FFE and 0x8000 to 0xFFFE are the last;
-        // 0x7FFF and 0xFFFF take 32,767 bytes and another must follow."
+        // 0x7FFF and 0xFFFF take 32,767 bytes and another must follow." Document 02, W-205: "In salvage 0x7FFF becomes a last
+        // continuation".
         let raw = number(run, at);
         let (takes, last) = match raw {
             0 | 1 => return None,
-            0x7FFF | 0xFFFF => (32_767, false),
+            0xFFFF => (32_767, false),
             _ => (raw, true),
         };
         if left < takes {

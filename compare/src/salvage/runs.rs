@@ -99,9 +99,11 @@ pub fn three(tally: &mut Tally, held: &mut Held) {
 }
 
 /// Frames around each edge as the Rust writes them, between short ones: good, and with a spoilt magic or type, and cut around
-/// each segment's start and end. Of 65,526 bytes a frame isn't whole by itself.
+/// each segment's start and end. A last segment that is full, of 65,526 and of 98,291 bytes, is the last here.
 pub fn edges(tally: &mut Tally, held: &mut Held, chance: &mut Chance) {
-    for len in [32_760, 32_761, 32_762, 65_525, 65_526, 65_527, 98_292] {
+    for len in [
+        32_760, 32_761, 32_762, 65_525, 65_526, 65_527, 98_291, 98_292,
+    ] {
         let payload = chance.bytes(len);
         for (dss_type, same) in TYPES.into_iter().zip([true, false, true, false]) {
             let long = written(dss_type, same, &payload);

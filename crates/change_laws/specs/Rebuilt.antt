@@ -72,7 +72,7 @@ module _ (f : Sent) (small : f .correlation < 65536) (u : Even (length (f .paylo
   stands : aloneAt Reader bytes 0 ≡ frame one
   stands =
       alone-as bytes
-      ∙ ap (aloneWalk bytes 0) (framed-walk cut u Reader bytes [] 0 (sym (append-nil bytes)))
+      ∙ ap (aloneWalk bytes 0) (framed-walk cut Reader u bytes [] 0 (sym (append-nil bytes)))
       ∙ ap (aloneHead bytes 0 segs) (head-written f small)
       ∙ pick-no _ _ (le-ltb (be16 bytes 0) 6 (long cut .0))
 

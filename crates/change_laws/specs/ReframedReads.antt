@@ -86,7 +86,7 @@ module _ {n : ℕ} {b : List ℕ} (x : Framed n b) (u : Even n → ⊥) (h : Dss
   unfolding aloneAt
   alone-framed =
       pick-yes _ _ (le-leb 0 (length b) (omega arith))
-      ∙ ap (aloneWalk b 0) (framed-walk x u Reader b [] 0 (sym (append-nil b)))
+      ∙ ap (aloneWalk b 0) (framed-walk x Reader u b [] 0 (sym (append-nil b)))
       ∙ ap (aloneHead b 0 (segmentsOf x 0)) e
       ∙ pick-no _ _ (le-ltb (be16 b 0) 6 (long x))
 

@@ -49,7 +49,7 @@ reads-from (f ∷ fs) a s p d l =
     record {
       read = sentAt f p ∷ ih .read;
       is =
-          frames-more s p (sentAt f p) (read-written f (a .0 .sendable) (a .0 .readable) Reader s (joined written fs) p d (λ h. closed-next fs (a .1) s q d₁ l₁))
+          frames-more s p (sentAt f p) (read-written f (a .0 .sendable) Reader (a .0 .readable) s (joined written fs) p d (λ h. closed-next fs (a .1) s q d₁ l₁))
           ∙ ap (before (sentAt f p)) (ap (allFrames s) (segments-end (framed-written f) p) ∙ ih .is);
       gives = (gives-written f s (joined written fs) p d, ih .gives);
     }

@@ -64,15 +64,15 @@ broken-spoilt =
 
 pub reply-item : Item written
 unfolding reply
-reply-item = good reply reply-sendable (λ u. omega (arith, u .size)) (inl refl)
+reply-item = good reply reply-sendable (inl refl)
 
 pub broken-item : Item written
 unfolding middle
-broken-item = spoilt middle middle-sendable (λ u. omega (arith, u .size)) (inl refl) broken broken-spoilt
+broken-item = spoilt middle middle-sendable (inl refl) broken broken-spoilt
 
 pub object-item : Item written
 unfolding object
-object-item = good object object-sendable (λ u. omega (arith, u .size)) (inr (inr object-starts))
+object-item = good object object-sendable (inr (inr object-starts))
 
 unfoldable pub three : List (Item written)
 three = reply-item ∷ broken-item ∷ object-item ∷ []

@@ -16,7 +16,7 @@ use Rattle.dss_frame.specs.Reading.{Read, frame, refused, Frame}
 use Rattle.dss_frame.specs.Segments.{payloadOf}
 use Rattle.dss_frame.specs.Salvage.{Entry, Salvaged}
 use Rattle.dss_frame.specs.Written.{Sent}
-use Rattle.demands.specs.Demands.{Writer, Reader, Sendable, Unreadable, ReadsBack, NotWhole, Item, good, run, AllDue, Salvages}
+use Rattle.demands.specs.Demands.{Writer, Reader, Sendable, Unreadable, ReadsBack, ReadsEverySize, NotWhole, Item, good, run, AllDue, Salvages}
 
 -- an empty frame of a type
 abbrev pub empty : DssType → Sent
@@ -69,6 +69,16 @@ frames-refuse writes g b l z back =
 pub no-yes-man : (writes : Writer) (g : List ℕ → ℕ → Frame) → NotWhole writes (λ s p. frame (g s p)) → ⊥
 no-yes-man writes g = frames-refuse writes g (replicate 65526 0) (length-replicate {A = ℕ} 65526 0) (zeros 65526)
 
+-- and none has both: a reader that reads every size back says of none that it isn't whole, so neither's rule does for the other
+both-wrong : (writes : Writer) (reads : Reader) (b : List ℕ) → length b ≡ 65526 → ((k : ℕ) → getD b k 0 ≡ 0) → ReadsEverySize writes reads → NotWhole writes reads → ⊥
+both-wrong writes reads b l z every back =
+    let v : Sendable (filled b) = record { correlation = omega arith; payload = λ k. omega (arith, z k) } in
+    let c = every (filled b) v in
+    frame-refused (reads (writes (filled b)) 0) (c .read) (record { why = Incomplete; place = 0 }) (c .is) (back (filled b) v (record { times = 0; size = omega arith }))
+
+pub no-both : (writes : Writer) (reads : Reader) → ReadsEverySize writes reads → NotWhole writes reads → ⊥
+no-both writes reads = both-wrong writes reads (replicate 65526 0) (length-replicate {A = ℕ} 65526 0) (zeros 65526)
+
 -- a fixed salvage: nothing is due of an empty run, and something of a frame's
 fixed : (writes : Writer) (s : List ℕ) (i : Item writes) (es : List Entry) → AllDue {writes = writes} [] 0 [] es → AllDue s 0 (i ∷ []) es → ⊥
 unfolding AllDue
@@ -78,7 +88,7 @@ fixed writes s i (e ∷ es) a b = a
 pub no-fixed-salvage : (writes : Writer) (x : Salvaged) → Salvages writes (λ s. x) → ⊥
 unfolding run
 no-fixed-salvage writes x all =
-    let i : Item writes = good (empty Request) (sendable Request) (readable Request) (inl refl) in
+    let i : Item writes = good (empty Request) (sendable Request) (inl refl) in
     fixed writes (run (i ∷ [])) i (x .entries) (all [] .0) (all (i ∷ []) .0)
 
 -- a writer that reads back lays down different bytes for frames that differ in what they say

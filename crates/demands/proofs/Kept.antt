@@ -25,9 +25,12 @@ use Rattle.dss_head.specs.Heads.{typeAt, bit}
 use Rattle.dss_head.specs.declared.DssType.{DssType}
 use Rattle.dss_head.specs.declared.TypeFound.the-variants.{Is}
 use Rattle.dss_frame.specs.Written.{Sent, written}
-use Rattle.dss_frame.specs.Reading.{readAt, positionAfter}
+use Rattle.dss_frame.specs.Reading.{Frame, readAt, positionAfter}
+use Rattle.dss_frame.specs.Frames.{frames, allFrames}
+use Rattle.dss_frame.specs.Records.{payloadsOf}
+use Rattle.dss_frame.specs.Salvage.{salvaged}
 use Rattle.dss_frame.specs.declared.DssFrame.{DssFrame}
-use Rattle.dss_frame.specs.declared.Rules.the-variants.{Reader}
+use Rattle.dss_frame.specs.declared.Rules.the-variants.{Reader, Salvage}
 use Rattle.dss_writer.specs.Writer.{sent}
 use Rattle.dss_writer.specs.declared.DssWriter.{DssWriter}
 use Rattle.dss_writer.specs.declared.Wrote.{Wrote}
@@ -57,24 +60,28 @@ use Rattle.gateway_frames.proofs.lattrugone_read_all_frames.Reads as lattrugone
 use Rattle.gateway_salvage.specs.SalvageWords.{SalvagesInWords}
 use Rattle.gateway_salvage.proofs.lattrugone_salvage.Reads as lattrugone-salvage
 use Rattle.layouts.specs.DssLayout.{Structure, Allowed, Dss, FullLast}
-use Rattle.demands.specs.Demands.{Sendable, Unreadable, Item, run}
+use Rattle.demands.specs.Demands.{Sendable, Unreadable, ReadsEverySize, Item, run}
 use Rattle.demands.specs.AllFrames.{AllAlone, joined}
-use Rattle.demands.specs.Layouts.{structureOf, WritesLayout, ReadsLayout, WaitsBehindFull, RefusesFive, LayoutFixes}
+use Rattle.demands.specs.AsRead.{NoneFull, SalvagesAsRead, TellsWhy}
+use Rattle.demands.specs.Layouts.{structureOf, WritesLayout, ReadsLayout, ReadsFullLast, WaitsBehindFull, RefusesFive, LayoutFixes}
 use Rattle.demands.specs.Longer.{TakenStay, WaitingLosesNothing}
 use Rattle.demands.specs.Mending.{StopsWaiting, decided}
 use Rattle.demands.proofs.WrittenLayout.{writes-layout}
-use Rattle.demands.proofs.LayoutReads.{reads-layout, waits-behind-full, refuses-five}
+use Rattle.demands.proofs.LayoutReads.{reads-layout, reads-full-last, waits-behind-full, refuses-five}
 use Rattle.demands.proofs.FaithfulLayout.{layout-fixes}
 use Rattle.demands.proofs.LayoutCalls.{write-dss-laid, next-frame-laid, layout-not-whole, layout-five}
 use Rattle.demands.proofs.LongerTaken.{reader-taken-stay, reader-decided-stay, reader-loses-nothing}
 use Rattle.demands.proofs.LongerCalls.{calls-same, has-whole, end-decided, words-same}
 use Rattle.demands.proofs.Mending.{stops-waiting}
 use Rattle.demands.proofs.DeadCalls.{calls-dead, words-dead}
+use Rattle.demands.proofs.ReadBack.{reads-every-size}
+use Rattle.demands.proofs.AsRead.{salvages-as-read, tells-why}
+use Rattle.demands.proofs.AsReadCalls.{as-read-words}
 use Rattle.demands.proofs.ReaderKeeps.{payloads, AllBack}
 use Rattle.demands.proofs.ReaderClauses.{read-all-frames-back}
 use Rattle.demands.proofs.SalvageKeeps.{allBytes, Recovered}
 use Rattle.demands.proofs.SalvageClauses.{salvage-recovers, salvage-refuses}
-use Rattle.demands.proofs.KeptMeaning.{behind, ReadAgain, NotReadAgain, ReadAgainInWords, NotReadAgainInWords, AllBackInWords, RecoveredInWords, RefusedInWords, StructureBack, StructureBackInWords, LaidInWords, notYet, typeFive, RefusedAs}
+use Rattle.demands.proofs.KeptMeaning.{behind, ReadAgain, NotReadAgain, ReadAgainInWords, NotReadAgainInWords, AllBackInWords, RecoveredInWords, RefusedInWords, SameInWords, StructureBack, StructureBackInWords, LaidInWords, notYet, typeFive, RefusedAs}
 use Rattle.demands.proofs.KeptFrame.{read-again, not-read-again, read-again-words, not-read-again-words}
 use Rattle.demands.proofs.KeptLayouts.{laid-in-words, structure-back, full-last, type-five}
 use Rattle.demands.proofs.KeptRows.{frames-back-words, recovers-words}
@@ -210,6 +217,10 @@ layout-written = writes-layout
 pub layout-read : ReadsLayout (readAt Reader)
 layout-read = reads-layout
 
+-- under salvage's rules a full last chunk is no difference
+pub layout-read-full : ReadsFullLast (readAt Salvage)
+layout-read-full = reads-full-last
+
 pub layout-waits : WaitsBehindFull (readAt Reader)
 layout-waits = waits-behind-full
 
@@ -332,6 +343,7 @@ exported-dead-again κs κs′ at s longer room again words words′ more after 
 -- them spoil the magic byte or the type so that the head is refused; change its flags, correlation and payload bytes too, but no length
 -- field. Given room, the salvage reading hands out every other frame, in order and exactly as written, and one refusal at the first byte
 -- of each spoilt frame, and nothing else."
+-- W-205: "From then on demand 3 has no forbidden sizes, and is to be proved so." None is left out here.
 
 pub salvaged-back : {M : Type 1} (𝓤 : URA M) (H : Heap 𝓤) (A : Atoms 𝓤) (mem : Memory → SProp 𝓤) (routines : Routine → Fun 𝓤) (κs : Lfts 3) (s room : RefT (List ℕ)) (row : RefT (List SalvageEntry)) (r : Salvaged) (room-after : List ℕ) (row-after : List SalvageEntry)
     → (items : List (Item written)) → s .now ≡ run items → length (allBytes items) ≤ length (room .now) → length items ≤ length (row .now)
@@ -347,3 +359,30 @@ pub exported-salvaged-back : (κs : Lfts 4) (s room row words : RefT (List ℕ))
 exported-salvaged-back κs s room row words number room-after row-after answer items e h k l p =
     recovers-words items (room .now) (row .now) (words .now) h k l number room-after row-after answer
     (subst (λ (b : List ℕ). SalvagesInWords b (room .now) (row .now) (words .now) number room-after row-after answer) e p)
+
+-- what it rests on: under salvage's rules a written frame of any size comes back
+pub every-size-back : ReadsEverySize written (readAt Salvage)
+every-size-back = reads-every-size
+
+-- ---- W-205, what stays as it was: a run that the reader reads without refusal, and in which no continuation that is walked has length
+-- 0x7FFF, the unfinished last frame's too, is salvaged as it is read.
+
+pub salvaged-as-read : SalvagesAsRead (λ s p. allFrames s p) salvaged
+salvaged-as-read = salvages-as-read
+
+-- so of the exported functions, lent eight words each, and rooms and rows with the same contents: the row of the one is the row of the
+-- other, and so is the room
+pub exported-salvaged-as-read : (κs κs′ : Lfts 4) (s room row words room′ row′ words′ : RefT (List ℕ)) (number number′ : ℕ) (room-after row-after answer room-after′ row-after′ answer′ : List ℕ)
+    → (fs : List Frame) (q : ℕ) → allFrames (s .now) 0 ≡ frames fs q → NoneFull (s .now) 0 fs
+    → room′ .now ≡ room .now → row′ .now ≡ row .now → 8 ≤ length (words .now) → 8 ≤ length (words′ .now)
+    → lattrugone-read-all-frames.Post κs (s, (0, (room, (row, (words, tt))))) number (s, (0, (at-last room room-after, (at-last row row-after, (at-last words answer, tt)))))
+    → lattrugone-salvage.Post κs′ (s, (room′, (row′, (words′, tt)))) number′ (s, (at-last room′ room-after′, (at-last row′ row-after′, (at-last words′ answer′, tt))))
+    → SameInWords (length fs) (length (payloadsOf (s .now) fs)) q number answer room-after row-after number′ answer′ room-after′ row-after′
+exported-salvaged-as-read κs κs′ s room row words room′ row′ words′ number number′ room-after row-after answer room-after′ row-after′ answer′ fs q e n j k h h′ a b =
+    as-read-words (s .now) fs q (room .now) (row .now) (words .now) (words′ .now) h h′ e n number number′ room-after row-after answer room-after′ row-after′ answer′ a
+    (subst (λ (l : List ℕ). SalvagesInWords (s .now) l (row .now) (words′ .now) number′ room-after′ row-after′ answer′) j
+    (subst (λ (l : List ℕ). SalvagesInWords (s .now) (room′ .now) l (words′ .now) number′ room-after′ row-after′ answer′) k b))
+
+-- where salvage's walk ended because a frame isn't whole, `frame_end` at the tail says whether more bytes can mend it
+pub tail-told : TellsWhy (λ s p. frameEnd s p)
+tail-told = tells-why

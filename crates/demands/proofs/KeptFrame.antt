@@ -79,7 +79,7 @@ module _ (f : Sent) (v : Sendable f) (s : List ℕ) (p : ℕ) (d : drop p s ≡ 
   -- the frame, with its end at the run's
   read-last : (Unreadable f → ⊥) → readAt Reader s p ≡ frame (sentAt f p)
   read-last u =
-      read-written f v u Reader s [] p stands
+      read-written f v Reader u s [] p stands
       (λ h. look-nothing Reader s (p + length (written f)) (omega (arith, here-length s (written f) [] p stands)))
 
   gives-last : Gives f s (sentAt f p)
@@ -90,7 +90,7 @@ module _ (f : Sent) (v : Sendable f) (s : List ℕ) (p : ℕ) (d : drop p s ≡ 
   unfolding readAt
   short-last u =
       pick-yes _ _ (le-leb p (length s) (omega (arith, here-length s (written f) [] p stands, framed-six (framed-written f))))
-      ∙ ap (readWalk Reader s p) (framed-short (framed-written f) (record { times = u .times; size = u .size }) Reader s p stands)
+      ∙ ap (readWalk Reader s p) (framed-short (framed-written f) (record { times = u .times; size = u .size }) s p stands)
 
   -- what the reader's call answers, and what its room then holds
   given-last : (Unreadable f → ⊥) → (size : ℕ) → length (f .payload) ≤ size

@@ -166,8 +166,8 @@ pub record AllBackInWords (fs : List Sent) (room row : List ℕ) (number : ℕ) 
 -- "every other frame ... exactly as written", its payload in the room where its words say, "and one refusal at the first byte of
 -- each spoilt frame": the number, the place p and the values
 abbrev pub ItemInWords : List ℕ → ℕ → ℕ → Item written → List ℕ → Type 0
-ItemInWords room p at (good f _ _ _) w = InWords f at w × PayloadAt room at f
-ItemInWords room p at (spoilt f _ _ _ b x) w = w ≡ refusalWords (record { why = x .reason .why; place = p })
+ItemInWords room p at (good f _ _) w = InWords f at w × PayloadAt room at f
+ItemInWords room p at (spoilt f _ _ b x) w = w ≡ refusalWords (record { why = x .reason .why; place = p })
 
 -- "in order", "and nothing else"
 unfoldable pub ItemsInWords : List ℕ → ℕ → ℕ → List (Item written) → List (List ℕ) → Type 0
@@ -184,6 +184,16 @@ pub record RecoveredInWords (items : List (Item written)) (room row : List ℕ) 
   pub room-is : room-after ≡ splice room 0 (allBytes items)
   pub row-says : ItemsInWords room-after 0 0 items (eights (length items) row-after)
   pub row-rest : drop (8 * length items) row-after ≡ drop (8 * length items) row
+
+-- ---- salvaged as read, in words
+
+-- Salvaging answers what reading all frames answers, a number, and leaves the same bytes in the room and the same records in the row.
+-- With 0, both say so many frames, so many bytes and where they end, the one as a position, the other as the tail's place.
+pub record SameInWords (count bytes end number : ℕ) (words room row : List ℕ) (number′ : ℕ) (words′ room′ row′ : List ℕ) : Type 0 where
+  pub number-is : number′ ≡ number
+  pub room-is : room′ ≡ room
+  pub row-is : row′ ≡ row
+  pub words-say : number ≡ 0 → (take 8 words ≡ 0 ∷ end ∷ count ∷ bytes ∷ 0 ∷ 0 ∷ 0 ∷ 0 ∷ []) × (take 8 words′ ≡ doneWords count bytes end 0)
 
 -- ---- a refusal, in words
 

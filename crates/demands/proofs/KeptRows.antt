@@ -107,11 +107,11 @@ refusal-words r p y e k = ap refusalWords (λ i. record { why = k i; place = e i
 
 item-in-words : (s room rest : List ℕ) (p at : ℕ) (i : Item written) (x : Read) → DueRead s p i x → drop at room ≡ dueBytes i ++ rest
     → ItemInWords room p at i (entryWords (entryOf s at x))
-item-in-words s room rest p at (good f _ _ _) (frame g) w d =
+item-in-words s room rest p at (good f _ _) (frame g) w d =
     (in-words f at at (recordOf s at g) (is-frame f s at g w), here-part room (f .payload) rest at (at + length (f .payload)) d (omega arith))
-item-in-words s room rest p at (good f _ _ _) (refused r) w d = absurd w
-item-in-words s room rest p at (spoilt f _ _ _ b x) (frame g) w d = absurd w
-item-in-words s room rest p at (spoilt f _ _ _ b x) (refused r) w d = refusal-words r p (x .reason .why) (w .0) (w .1)
+item-in-words s room rest p at (good f _ _) (refused r) w d = absurd w
+item-in-words s room rest p at (spoilt f _ _ b x) (frame g) w d = absurd w
+item-in-words s room rest p at (spoilt f _ _ b x) (refused r) w d = refusal-words r p (x .reason .why) (w .0) (w .1)
 
 items-in-words : (s room rest : List ℕ) (p at : ℕ) (is : List (Item written)) (es : List Entry) → AllDue s p is es → drop at room ≡ allBytes is ++ rest
     → ItemsInWords room p at is (map entryWords (salvagedRow s at es))

@@ -19,18 +19,18 @@ use Rattle.dss_head.specs.declared.DssFlags.{DssFlags}
 use Rattle.dss_head.specs.declared.DssHeader.{DssHeader}
 use Rattle.dss_head.specs.declared.DssType.{DssType}
 use Rattle.dss_head.specs.declared.DssType.the-variants.{Request, Reply, Object}
-use Rattle.dss_frame.specs.declared.Rules.the-variants.{Reader}
+use Rattle.dss_frame.specs.declared.Rules.the-variants.{Reader, Salvage}
 use Rattle.dss_frame.specs.Segments.{payloadOf, endOf, frameWalk, continuations, walkFuel}
 use Rattle.dss_frame.specs.Reading.{Read, Frame, frame, refused, readAt, absorb, absorbFuel, look}
 use Rattle.dss_frame.specs.Written.{Sent, headOf, chunks, written}
 use Rattle.dss_laws.specs.Writing.{written-single, written-several}
 use Rattle.layouts.specs.DssLayout.{Structure, Allowed, ends, Dss, one, several, EndsFull, FullLast, rest}
-use Rattle.demands.specs.Layouts.{structureOf, WritesLayout, ReadAs, ReadsLayout, WaitsBehindFull, RefusesFive, LayoutFixes, NoLayout}
+use Rattle.demands.specs.Layouts.{structureOf, WritesLayout, ReadAs, ReadsLayout, ReadsFullLast, WaitsBehindFull, RefusesFive, LayoutFixes, NoLayout}
 use Rattle.demands.proofs.Mending.{octets-same}
 use Rattle.demands.proofs.Impostors.{empty, sendable, frame-refused, same-frame}
 use Rattle.demands.proofs.WrittenLayout.{allowed-sent, writes-layout}
 use Rattle.demands.proofs.FaithfulLayout.{allowed-in, told-at}
-use Rattle.demands.proofs.LayoutReads.{reads-layout, refuses-five, waits-behind-full}
+use Rattle.demands.proofs.LayoutReads.{reads-layout, reads-full-last, refuses-five, waits-behind-full}
 
 -- ---- structures that meet the premises
 
@@ -145,6 +145,10 @@ pub full-waits : readAt Reader (twoChunks (filling 32761) (filling 32765)) 0 ≡
 full-waits = let c = filled 32765 (omega arith) in waits-behind-full _ _ (c .laid) (c .full (omega (arith, filling-length 32765)))
 
 -- (with a frame behind it, that frame is taken for the chunk that is waited for: `Limits`, `swallowed`)
+
+-- under salvage's rules the full one is read
+pub full-read : ReadAs (readAt Salvage) (object (filling 32761 ++ filling 32765)) (twoChunks (filling 32761) (filling 32765))
+full-read = let c = filled 32765 (omega arith) in reads-full-last _ _ (c .laid) (λ e. omega arith)
 
 -- ---- what is no structure of the volume
 
@@ -298,6 +302,14 @@ no-waiting g waits =
     let c = filled 32765 (omega arith) in
     let b : List ℕ = twoChunks (filling 32761) (filling 32765) in
     frame-refused (frame (g b 0)) (g b 0) (record { why = Incomplete; place = 0 }) refl (waits _ _ (c .laid) (c .full (omega (arith, filling-length 32765))))
+
+-- one that does both: reads a full last chunk, and waits behind it
+pub no-both-layouts : (reads : List ℕ → ℕ → Read) → WaitsBehindFull reads → ReadsFullLast reads → ⊥
+no-both-layouts reads waits back =
+    let c = filled 32765 (omega arith) in
+    let r = back _ _ (c .laid) (λ e. omega arith) in
+    let b : List ℕ = twoChunks (filling 32761) (filling 32765) in
+    frame-refused (reads b 0) (r .read) (record { why = Incomplete; place = 0 }) (r .is) (waits _ _ (c .laid) (c .full (omega (arith, filling-length 32765))))
 
 pub no-refusing : (g : List ℕ → ℕ → Frame) → RefusesFive (λ s p. frame (g s p)) → ⊥
 unfolding FullLast five-laid

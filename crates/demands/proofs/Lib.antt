@@ -23,6 +23,7 @@ pub mod LongerExamples
 pub mod LongerTakenExamples
 pub mod Mending
 pub mod MendingExamples
+pub mod AsRead
 pub mod ReaderKeeps
 pub mod SalvageKeeps
 pub mod SalvageClauses
@@ -32,9 +33,12 @@ pub mod ReaderClauses
 pub mod KeptMeaning
 pub mod KeptFrame
 pub mod KeptRows
+pub mod FullRun
 pub mod KeptLayouts
 pub mod DeadCalls
+pub mod AsReadCalls
 pub mod Kept
 pub mod KeptExamples
 pub mod DeadExamples
+pub mod AsReadExamples
 pub mod KeptRefusals

@@ -146,7 +146,7 @@ salvage-frames (suc k) s p h gs =
     by-look l₁ l₂ (takes g c) go = go _ _
     by-look l₁ l₂ (closes r) go = framed _
 
--- what the reader reads, salvage reads
+-- what the reader reads, salvage reads, where the walks are the same
 salvage-absorbs : (k : ℕ) (s : List ℕ) (p : ℕ) (h : DssHeader) (gs : List Segment) (f : Frame) → absorbFuel k AsReader s p h gs ≡ frame f → absorbFuel k AsSalvage s p h gs ≡ frame f
 unfolding absorbFuel
 salvage-absorbs zero s p h gs f e = e
@@ -176,9 +176,9 @@ salvage-head s p gs (Head h) f e = go (ltb (be16 s p) 6) (eqb (be16 s p) 65535) 
     go false true r j = j
     go false false r j = salvage-absorbs (length s) s p h gs f j
 
-salvage-reads : (s : List ℕ) (p : ℕ) (f : Frame) → (be16 s p ≡ 0xFFFF → ⊥) → readAt AsReader s p ≡ frame f → readAt AsSalvage s p ≡ frame f
+pub salvage-reads : (s : List ℕ) (p : ℕ) (f : Frame) → frameWalk AsReader s p ≡ frameWalk AsSalvage s p → readAt AsReader s p ≡ frame f → readAt AsSalvage s p ≡ frame f
 unfolding readAt
-salvage-reads s p f ne e = go (leb p (length s)) e
+salvage-reads s p f same e = go (leb p (length s)) e
   where
     by-walk : (w : Walk) → readWalk AsReader s p w ≡ frame f → readWalk AsSalvage s p w ≡ frame f
     by-walk short j = j
@@ -187,7 +187,7 @@ salvage-reads s p f ne e = go (leb p (length s)) e
 
     go : (b : Bool) → pick b (readWalk AsReader s p (frameWalk AsReader s p)) (refused (outOfBounds p (length s))) ≡ frame f
         → pick b (readWalk AsSalvage s p (frameWalk AsSalvage s p)) (refused (outOfBounds p (length s))) ≡ frame f
-    go true j = ap (readWalk AsSalvage s p) (sym (walk-one s p ne)) ∙ by-walk (frameWalk AsReader s p) j
+    go true j = ap (readWalk AsSalvage s p) (sym same) ∙ by-walk (frameWalk AsReader s p) j
     go false j = j
 
 abbrev Kept : List ℕ → List ℕ → Frame → Read → Type 0
@@ -199,7 +199,7 @@ kept-frame s t p f x (framed g) w = record { read = g; is = refl; begins = grown
 pub salvage-keeps-waiting : SalvageKeepsWaiting (readAt AsReader) (readAt AsSalvage)
 unfolding absorb
 salvage-keeps-waiting s t p f ne e =
-    let j : readAt AsSalvage s p ≡ frame f = salvage-reads s p f ne e in go (readAt AsSalvage s p) (readAt AsSalvage (s ++ t) p) (read-becomes AsSalvage s t p (inside AsSalvage s p f j)) j
+    let j : readAt AsSalvage s p ≡ frame f = salvage-reads s p f (walk-one s p ne) e in go (readAt AsSalvage s p) (readAt AsSalvage (s ++ t) p) (read-becomes AsSalvage s t p (inside AsSalvage s p f j)) j
   where
     go : (x y : Read) → Becomes AsSalvage s t p x y → x ≡ frame f → Kept s t f y
     go x y (same-refusal r n) k = absurd (frame-refused f r (sym k))

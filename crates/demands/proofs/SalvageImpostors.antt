@@ -35,17 +35,17 @@ AllSame s (d ∷ ds) [] = ⊥
 AllSame s (d ∷ ds) (e ∷ es) = (d .at ≡ e .at) × (d .end ≡ e .end) × SaysSame s (d .read) (e .read) × AllSame s ds es
 
 due-same : {writes : Writer} (s : List ℕ) (p : ℕ) (i : Item writes) (x y : Read) → DueRead s p i x → DueRead s p i y → SaysSame s x y
-due-same s p (good f _ _ _) (frame g) (frame h) a b = (
+due-same s p (good f _ _) (frame g) (frame h) a b = (
   a .type ∙ sym (b .type),
   (λ j. record { chained = (a .chained ∙ sym (b .chained)) j; «continue_on_error» = (a .no-continue ∙ sym (b .no-continue)) j; «same_correlation» = (a .same ∙ sym (b .same)) j }),
   a .correlation ∙ sym (b .correlation),
   a .payload ∙ sym (b .payload),
 )
-due-same s p (good f _ _ _) (frame g) (refused r) a b = b
-due-same s p (good f _ _ _) (refused r) y a b = absurd a
-due-same s p (spoilt f _ _ _ c x) (frame g) y a b = absurd a
-due-same s p (spoilt f _ _ _ c x) (refused r) (frame h) a b = b
-due-same s p (spoilt f _ _ _ c x) (refused q) (refused r) a b = λ j. record { why = (a .1 ∙ sym (b .1)) j; place = (a .0 ∙ sym (b .0)) j }
+due-same s p (good f _ _) (frame g) (refused r) a b = b
+due-same s p (good f _ _) (refused r) y a b = absurd a
+due-same s p (spoilt f _ _ c x) (frame g) y a b = absurd a
+due-same s p (spoilt f _ _ c x) (refused r) (frame h) a b = b
+due-same s p (spoilt f _ _ c x) (refused q) (refused r) a b = λ j. record { why = (a .1 ∙ sym (b .1)) j; place = (a .0 ∙ sym (b .0)) j }
 
 -- the demand leaves no choice
 pub all-same : {writes : Writer} (s : List ℕ) (p : ℕ) (is : List (Item writes)) (ds es : List Entry) → AllDue s p is ds → AllDue s p is es → AllSame s ds es
@@ -107,11 +107,11 @@ object chained = record { type = Object; chained = chained; same = false; correl
 
 request-item : Item written
 unfolding request
-request-item = good request (record { correlation = omega arith; payload = λ k. omega arith }) (λ u. omega (arith, u .size)) (inl refl)
+request-item = good request (record { correlation = omega arith; payload = λ k. omega arith }) (inl refl)
 
 object-item : Bool → Item written
 unfolding object
-object-item c = good (object c) (record { correlation = omega arith; payload = λ k. omega arith }) (λ u. omega (arith, u .size)) (inl refl)
+object-item c = good (object c) (record { correlation = omega arith; payload = λ k. omega arith }) (inl refl)
 
 pair : Bool → List (Item written)
 pair c = request-item ∷ object-item c ∷ []

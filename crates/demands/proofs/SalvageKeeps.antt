@@ -22,8 +22,8 @@ use Rattle.demands.proofs.Salvaging.{salvages}
 
 -- the payload that is due of an item: a good frame's, and of a spoilt one none
 abbrev pub dueBytes : Item written → List ℕ
-dueBytes (good f _ _ _) = f .payload
-dueBytes (spoilt f _ _ _ b _) = []
+dueBytes (good f _ _) = f .payload
+dueBytes (spoilt f _ _ b _) = []
 
 -- of all, end to end
 unfoldable pub allBytes : List (Item written) → List ℕ
@@ -31,10 +31,10 @@ allBytes [] = []
 allBytes (i ∷ is) = dueBytes i ++ allBytes is
 
 pub due-bytes : (s : List ℕ) (p : ℕ) (i : Item written) (x : Read) → DueRead s p i x → bytesOf s x ≡ dueBytes i
-due-bytes s p (good f _ _ _) (frame g) d = d .payload
-due-bytes s p (good f _ _ _) (refused r) d = absurd d
-due-bytes s p (spoilt f _ _ _ b x) (frame g) d = absurd d
-due-bytes s p (spoilt f _ _ _ b x) (refused r) d = refl
+due-bytes s p (good f _ _) (frame g) d = d .payload
+due-bytes s p (good f _ _) (refused r) d = absurd d
+due-bytes s p (spoilt f _ _ b x) (frame g) d = absurd d
+due-bytes s p (spoilt f _ _ b x) (refused r) d = refl
 
 pub all-bytes : (s : List ℕ) (p : ℕ) (is : List (Item written)) (es : List Entry) → AllDue s p is es → (salvagedBytes s es ≡ allBytes is) × (length es ≡ length is)
 unfolding AllDue allBytes salvagedBytes

@@ -20,12 +20,12 @@ use Rattle.dss_salvage.specs.SalvageCall as call
 use Rattle.dss_salvage.specs.declared.SalvageEntry.{SalvageEntry}
 use Rattle.dss_salvage.specs.declared.Salvaged.{Salvaged}
 use Rattle.dss_salvage.specs.declared.Salvaged.the-variants.{Done}
-use Rattle.demands.specs.Demands.{Sendable, Unreadable, Spoilt, LengthField, Item, good, spoilt, run, AllDue}
+use Rattle.demands.specs.Demands.{Sendable, Spoilt, LengthField, Item, good, spoilt, run, AllDue}
 use Rattle.demands.proofs.Salvaging.{salvages}
 use Rattle.demands.proofs.SalvageKeeps.{allBytes, recovers}
 
 -- a frame of so many bytes of payload, all alike
-sized : DssType → Bool → ℕ → Sent
+unfoldable pub sized : DssType → Bool → ℕ → Sent
 sized t same n = record { type = t; chained = false; same = same; correlation = 1; payload = replicate n 0xC1 }
 
 pub alike : (n k : ℕ) → getD (replicate n 0xC1) k 0 < 256
@@ -33,13 +33,9 @@ alike zero k = omega arith
 alike (suc n) zero = omega arith
 alike (suc n) (suc k) = alike n k
 
-sendable : (t : DssType) (same : Bool) (n : ℕ) → Sendable (sized t same n)
+pub sendable : (t : DssType) (same : Bool) (n : ℕ) → Sendable (sized t same n)
 unfolding sized
 sendable t same n = record { correlation = omega arith; payload = alike n }
-
-readable : (t : DssType) (same : Bool) (n : ℕ) → n < 65526 → Unreadable (sized t same n) → ⊥
-unfolding sized
-readable t same n h u = omega (arith, u .size, length-replicate {A = ℕ} n 0xC1)
 
 long : (t : DssType) (same : Bool) (n : ℕ) → 32761 < n → 32761 < length (sized t same n .payload)
 unfolding sized
@@ -51,8 +47,8 @@ long t same n h = omega (arith, length-replicate {A = ℕ} n 0xC1)
 lost : List ℕ
 lost = 0xFF ∷ 0xFF ∷ 0x55 ∷ 0x13 ∷ 9 ∷ 9 ∷ (replicate 32761 0xBB ++ (0x00 ∷ 0x03 ∷ 0xBB ∷ []))
 
--- two that are as long agree at every length field if they agree at those of the first two segments
-agree : (f : Sent) (b w : List ℕ) → length b ≡ 32770 → length w ≡ 32770
+-- two that are as long, of two segments at most, agree at every length field if they agree at those of both segments
+pub agree : (f : Sent) (b w : List ℕ) → length b ≡ length w → length w ≤ 65534
     → getD b 0 0 ≡ getD w 0 0 → getD b 1 0 ≡ getD w 1 0 → getD b 32767 0 ≡ getD w 32767 0 → getD b 32768 0 ≡ getD w 32768 0
     → (k : ℕ) → LengthField f k → getD b k 0 ≡ getD w k 0
 agree f b w lb lw e₀ e₁ e₂ e₃ zero l = e₀
@@ -75,23 +71,23 @@ unfolding sized lost written chunks chunksFuel
 lost-spoilt = record {
   length-kept = refl;
   bytes = octets-tested lost refl;
-  lengths-kept = agree (sized Reply false 32762) lost (written (sized Reply false 32762)) refl refl refl refl refl refl;
+  lengths-kept = agree (sized Reply false 32762) lost (written (sized Reply false 32762)) refl (omega arith) refl refl refl refl;
   reason = record { why = InvalidMagic 0x55; place = 0 };
   head-refused = refl;
 }
 
 -- ---- the run
 
-pub small : Item written
+unfoldable pub small : Item written
 unfolding sized
-small = good (sized Reply false 1) (sendable Reply false 1) (readable Reply false 1 (omega arith)) (inl refl)
+small = good (sized Reply false 1) (sendable Reply false 1) (inl refl)
 
 pub lost-item : Item written
 unfolding sized
-lost-item = spoilt (sized Reply false 32762) (sendable Reply false 32762) (readable Reply false 32762 (omega arith)) (inl refl) lost lost-spoilt
+lost-item = spoilt (sized Reply false 32762) (sendable Reply false 32762) (inl refl) lost lost-spoilt
 
 pub big : Item written
-big = good (sized Object true 32762) (sendable Object true 32762) (readable Object true 32762 (omega arith)) (inr (inl (long Object true 32762 (omega arith))))
+big = good (sized Object true 32762) (sendable Object true 32762) (inr (inl (long Object true 32762 (omega arith))))
 
 unfoldable pub several : List (Item written)
 several = small ∷ lost-item ∷ big ∷ []

@@ -15,6 +15,7 @@ use Rattle.dss_head.specs.declared.DssHeader.{DssHeader}
 use Rattle.dss_head.specs.declared.HeadFound.{HeadFound}
 use Rattle.dss_head.specs.declared.HeadFound.the-variants.{Head, Refused as Refuses}
 use Rattle.dss_frame.specs.declared.Rules.{Rules}
+use Rattle.dss_frame.specs.declared.Rules.the-variants.{Reader, Salvage}
 use Rattle.dss_frame.specs.Segments.{payloadOf}
 use Rattle.dss_frame.specs.Reading.{finished, look, frame, refused, Frame, absorb, readHead, readWalk, readAt, startsExtended}
 use Rattle.dss_frame.specs.Written.{Sent, headOf, written}
@@ -22,7 +23,7 @@ use Rattle.demands.specs.Demands.{Sendable, Unreadable, Gives}
 use Rattle.wire.specs.Laws.{pick-yes, pick-no}
 use Rattle.wire.specs.Places.{here-first, here-length}
 use Rattle.dss_laws.specs.Looks.{absorb-finished}
-use Rattle.dss_laws.specs.Framed.{Framed, single, several, Even, segmentsOf, segments-end, framed-walk}
+use Rattle.dss_laws.specs.Framed.{Framed, single, several, WholeUnder, segmentsOf, segments-end, framed-walk}
 use Rattle.dss_laws.specs.Writing.{framed-written, payload-written}
 use Rattle.dss_head.specs.HeadLaws.{movedTo}
 use Rattle.dss_laws.specs.HeadLaws.{head-moved, head-written}
@@ -41,24 +42,24 @@ framed-raw (single h e w) = omega arith
 framed-raw (several k r e lo hi w) = omega (arith, w .starts)
 
 -- up to the head: the walk, and then the head
-pub read-walked : {n : ℕ} {b : List ℕ} (w : Framed n b) → (Even n → ⊥) → (rules : Rules) (s rest : List ℕ) (p : ℕ) (h : HeadFound) → drop p s ≡ b ++ rest → headAt s p ≡ h
+pub read-walked : {n : ℕ} {b : List ℕ} (w : Framed n b) (rules : Rules) → WholeUnder rules n → (s rest : List ℕ) (p : ℕ) (h : HeadFound) → drop p s ≡ b ++ rest → headAt s p ≡ h
     → readAt rules s p ≡ readHead rules s p (segmentsOf w p) h
 unfolding readAt
-read-walked {n} {b} w u rules s rest p h d e =
+read-walked {n} {b} w rules u s rest p h d e =
     let l : length s - p ≡ length b + length rest = here-length s b rest p d in
     let six : 6 ≤ length b = framed-six w in
     pick-yes _ _ (le-leb p (length s) (omega arith))
-    ∙ ap (readWalk rules s p) (framed-walk w u rules s rest p d)
+    ∙ ap (readWalk rules s p) (framed-walk w rules u s rest p d)
     ∙ ap (readHead rules s p (segmentsOf w p)) e
 
 -- a head that is found: the frame, if what follows closes it
-pub read-found : {n : ℕ} {b : List ℕ} (w : Framed n b) → (Even n → ⊥) → (rules : Rules) (s rest : List ℕ) (p : ℕ) (h : DssHeader) → drop p s ≡ b ++ rest → headAt s p ≡ Head h
+pub read-found : {n : ℕ} {b : List ℕ} (w : Framed n b) (rules : Rules) → WholeUnder rules n → (s rest : List ℕ) (p : ℕ) (h : DssHeader) → drop p s ≡ b ++ rest → headAt s p ≡ Head h
     → (n ≤ 32761 → Closed rules s (p + length b)) → readAt rules s p ≡ frame (record { head = h; segments = segmentsOf w p })
-read-found {n} {b} w u rules s rest p h d e c =
+read-found {n} {b} w rules u s rest p h d e c =
     let l : length s - p ≡ length b + length rest = here-length s b rest p d in
     let six : 6 ≤ length b = framed-six w in
     let raw : be16 s p ≡ be16 b 0 = here-first s b rest p d (omega arith) in
-    read-walked w u rules s rest p (Head h) d e
+    read-walked w rules u s rest p (Head h) d e
     ∙ pick-no _ _ (le-ltb (be16 s p) 6 (omega (arith, framed-raw w)))
     ∙ by-shape w raw c
   where
@@ -72,23 +73,29 @@ read-found {n} {b} w u rules s rest p h d e c =
     by-shape (several k r z lo hi y) raw c = pick-yes _ _ (eq-eqb (be16 s p) 65535 (raw ∙ y .starts))
 
 -- a head that is refused
-pub read-refused : {n : ℕ} {b : List ℕ} (w : Framed n b) → (Even n → ⊥) → (rules : Rules) (s rest : List ℕ) (p : ℕ) (r : Refused) → drop p s ≡ b ++ rest → headAt s p ≡ Refuses r
+pub read-refused : {n : ℕ} {b : List ℕ} (w : Framed n b) (rules : Rules) → WholeUnder rules n → (s rest : List ℕ) (p : ℕ) (r : Refused) → drop p s ≡ b ++ rest → headAt s p ≡ Refuses r
     → readAt rules s p ≡ refused r
-read-refused w u rules s rest p r d e = read-walked w u rules s rest p (Refuses r) d e
+read-refused w rules u s rest p r d e = read-walked w rules u s rest p (Refuses r) d e
 
 -- ---- a written frame
 
-pub not-even : (f : Sent) → (Unreadable f → ⊥) → Even (length (f .payload)) → ⊥
-not-even f u e = u (record { times = e .times; size = e .size })
+-- the sizes that the rules find whole
+abbrev pub SizeRead : Rules → Sent → Type 0
+SizeRead Reader f = Unreadable f → ⊥
+SizeRead Salvage f = Unit {0}
+
+size-whole : (rules : Rules) (f : Sent) → SizeRead rules f → WholeUnder rules (length (f .payload))
+size-whole Reader f u = λ e. u (record { times = e .times; size = e .size })
+size-whole Salvage f u = tt
 
 -- the frame that is handed out
 abbrev pub sentAt : Sent → ℕ → Frame
 sentAt f p = record { head = headOf f (lengthOf (be16 (written f) 0)); segments = segmentsOf (framed-written f) p }
 
-pub read-written : (f : Sent) → Sendable f → (Unreadable f → ⊥) → (rules : Rules) (s rest : List ℕ) (p : ℕ) → drop p s ≡ written f ++ rest
+pub read-written : (f : Sent) → Sendable f → (rules : Rules) → SizeRead rules f → (s rest : List ℕ) (p : ℕ) → drop p s ≡ written f ++ rest
     → (length (f .payload) ≤ 32761 → Closed rules s (p + length (written f))) → readAt rules s p ≡ frame (sentAt f p)
-read-written f v u rules s rest p d c =
-    read-found (framed-written f) (not-even f u) rules s rest p (headOf f (lengthOf (be16 (written f) 0))) d
+read-written f v rules u s rest p d c =
+    read-found (framed-written f) rules (size-whole rules f u) s rest p (headOf f (lengthOf (be16 (written f) 0))) d
     (head-moved s (written f) rest p d (framed-six (framed-written f)) ∙ ap (movedTo p) (head-written f (v .correlation))) c
 
 -- it gives what was sent

@@ -43,11 +43,20 @@ pub record Gives (f : Sent) (run : List ℕ) (g : Frame) : Type 0 where
   pub correlation : g .head .«correlation_id» ≡ f .correlation
   pub payload : payloadOf run (g .segments) ≡ f .payload
 
+-- a frame comes back from its written bytes alone
+pub record ComesBack (writes : Writer) (reads : Reader) (f : Sent) : Type 0 where
+  pub read : Frame
+  pub is : reads (writes f) 0 ≡ frame read
+  pub gives : Gives f (writes f) read
+  pub consumed : endOf 0 (read .segments) ≡ length (writes f)
+
 -- "A written frame, read alone with enough room, gives back type, flags, correlation, payload and is wholly consumed."
 abbrev pub ReadsBack : Writer → Reader → Type 0
-ReadsBack writes reads =
-    (f : Sent) → Sendable f → (Unreadable f → ⊥) →
-    record { read : Frame; is : reads (writes f) 0 ≡ frame read; gives : Gives f (writes f) read; consumed : endOf 0 (read .segments) ≡ length (writes f) }
+ReadsBack writes reads = (f : Sent) → Sendable f → (Unreadable f → ⊥) → ComesBack writes reads f
+
+-- W-205: the same with no size left out. It is salvage's rules that have this
+abbrev pub ReadsEverySize : Writer → Reader → Type 0
+ReadsEverySize writes reads = (f : Sent) → Sendable f → ComesBack writes reads f
 
 -- "With a payload of 32,761 plus one or more times 32,765 bytes, the reader says it isn't whole."
 abbrev pub NotWhole : Writer → Reader → Type 0
@@ -81,14 +90,14 @@ pub record Spoilt (writes : Writer) (f : Sent) (b : List ℕ) : Type 0 where
   pub reason : Refused
   pub head-refused : headAt b 0 ≡ Refuses reason
 
--- what comes off the wire: a frame as written, or one that was spoilt
+-- what comes off the wire: a frame as written, or one that was spoilt; W-205: "demand 3 has no forbidden sizes"
 pub data Item (writes : Writer) : Type 0 where
-  good : (f : Sent) → Sendable f → (Unreadable f → ⊥) → Stands f → Item writes
-  spoilt : (f : Sent) → Sendable f → (Unreadable f → ⊥) → Stands f → (b : List ℕ) → Spoilt writes f b → Item writes
+  good : (f : Sent) → Sendable f → Stands f → Item writes
+  spoilt : (f : Sent) → Sendable f → Stands f → (b : List ℕ) → Spoilt writes f b → Item writes
 
 abbrev pub bytesOf : {writes : Writer} → Item writes → List ℕ
-bytesOf {writes} (good f _ _ _) = writes f
-bytesOf {writes} (spoilt f _ _ _ b _) = b
+bytesOf {writes} (good f _ _) = writes f
+bytesOf {writes} (spoilt f _ _ b _) = b
 
 unfoldable pub run : {writes : Writer} → List (Item writes) → List ℕ
 run [] = []
@@ -96,10 +105,10 @@ run (i ∷ is) = bytesOf i ++ run is
 
 -- what is read is what is due for an item that starts at a place: the frame exactly as written, or one refusal at its first byte
 abbrev pub DueRead : {writes : Writer} → List ℕ → ℕ → Item writes → Read → Type 0
-DueRead s p (good f _ _ _) (frame g) = Gives f s g
-DueRead s p (good f _ _ _) (refused r) = ⊥
-DueRead s p (spoilt f _ _ _ b x) (frame g) = ⊥
-DueRead s p (spoilt f _ _ _ b x) (refused r) = (r .place ≡ p) × (r .why ≡ x .reason .why)
+DueRead s p (good f _ _) (frame g) = Gives f s g
+DueRead s p (good f _ _) (refused r) = ⊥
+DueRead s p (spoilt f _ _ b x) (frame g) = ⊥
+DueRead s p (spoilt f _ _ b x) (refused r) = (r .place ≡ p) × (r .why ≡ x .reason .why)
 
 -- an entry is what is due for such an item: it stands at the item's bytes, and reads what is due
 pub record Due {writes : Writer} (s : List ℕ) (p : ℕ) (i : Item writes) (e : Entry) : Type 0 where

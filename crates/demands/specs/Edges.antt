@@ -1,4 +1,4 @@
--- Document 01, "Both sides of each edge", computed at their real sizes.
+-- Document 01, "Both sides of each edge", computed at their real sizes, and the same under salvage's rules, which W-205 changes at one.
 use Prim.Native.Nat.{ℕ, _+_}
 use mathlib.Core.Path.{_≡_, refl}
 use mathlib.Core.Bool.{false}
@@ -10,7 +10,7 @@ use Rattle.dss_head.specs.declared.DssType.the-variants.{Object}
 use Rattle.dss_frame.specs.Segments.{payloadOf, endOf, frameWalk, continuations, walkFuel}
 use Rattle.dss_frame.specs.Reading.{Read, frame, refused, readAt, absorb, absorbFuel, look}
 use Rattle.dss_frame.specs.Written.{Sent, written, chunks, chunksFuel, frameSize}
-use Rattle.dss_frame.specs.declared.Rules.the-variants.{Reader}
+use Rattle.dss_frame.specs.declared.Rules.the-variants.{Reader, Salvage}
 use Rattle.ddm_builder.specs.Built.{built, lengthBytes}
 
 -- an object frame of so many bytes of payload
@@ -23,7 +23,7 @@ answer s (frame f) = 0 ∷ length (payloadOf s (f .segments)) ∷ endOf 0 (f .se
 answer s (refused r) = numberOf (r .why) ∷ []
 
 -- how long a written frame is and what its room is said to be, its first length, its continuations' lengths where there are
--- any (0 beyond the frame), and what reading it alone comes to
+-- any (0 beyond the frame), and what reading it alone comes to, for the reader and under salvage's rules
 pub record Edge : Type 0 where
   pub size : ℕ
   pub room : ℕ
@@ -31,37 +31,38 @@ pub record Edge : Type 0 where
   pub second : ℕ
   pub third : ℕ
   pub read : List ℕ
+  pub salvage : List ℕ
 
 unfoldable pub edgeOf : List ℕ → ℕ → Edge
 unfolding answer
-edgeOf w n = record { size = length w; room = frameSize n; first = be16 w 0; second = be16 w 32767; third = be16 w 65534; read = answer w (readAt Reader w 0) }
+edgeOf w n = record { size = length w; room = frameSize n; first = be16 w 0; second = be16 w 32767; third = be16 w 65534; read = answer w (readAt Reader w 0); salvage = answer w (readAt Salvage w 0) }
 
 unfoldable pub edge : ℕ → Edge
 unfolding full edgeOf
 edge n = edgeOf (written (full n)) n
 
 -- "Payload 32,761: 32,767 bytes, length 7FFF"
-pub edge-32761 : edge 32761 ≡ record { size = 32767; room = 32767; first = 0x7FFF; second = 0; third = 0; read = 0 ∷ 32761 ∷ 32767 ∷ [] }
+pub edge-32761 : edge 32761 ≡ record { size = 32767; room = 32767; first = 0x7FFF; second = 0; third = 0; read = 0 ∷ 32761 ∷ 32767 ∷ []; salvage = 0 ∷ 32761 ∷ 32767 ∷ [] }
 unfolding edge edgeOf answer full frameSize written chunks chunksFuel readAt absorb absorbFuel look payloadOf endOf frameWalk continuations walkFuel
 edge-32761 = refl
 
 -- "32,762: 32,770 bytes, continuation 0003"
-pub edge-32762 : edge 32762 ≡ record { size = 32770; room = 32770; first = 0xFFFF; second = 0x0003; third = 0; read = 0 ∷ 32762 ∷ 32770 ∷ [] }
+pub edge-32762 : edge 32762 ≡ record { size = 32770; room = 32770; first = 0xFFFF; second = 0x0003; third = 0; read = 0 ∷ 32762 ∷ 32770 ∷ []; salvage = 0 ∷ 32762 ∷ 32770 ∷ [] }
 unfolding edge edgeOf answer full frameSize written chunks chunksFuel readAt absorb absorbFuel look payloadOf endOf frameWalk continuations walkFuel
 edge-32762 = refl
 
 -- "65,525: 65,533 bytes, 7FFE, reads back"
-pub edge-65525 : edge 65525 ≡ record { size = 65533; room = 65533; first = 0xFFFF; second = 0x7FFE; third = 0; read = 0 ∷ 65525 ∷ 65533 ∷ [] }
+pub edge-65525 : edge 65525 ≡ record { size = 65533; room = 65533; first = 0xFFFF; second = 0x7FFE; third = 0; read = 0 ∷ 65525 ∷ 65533 ∷ []; salvage = 0 ∷ 65525 ∷ 65533 ∷ [] }
 unfolding edge edgeOf answer full frameSize written chunks chunksFuel readAt absorb absorbFuel look payloadOf endOf frameWalk continuations walkFuel
 edge-65525 = refl
 
--- "65,526: 65,534 bytes, 7FFF, not whole alone"
-pub edge-65526 : edge 65526 ≡ record { size = 65534; room = 65534; first = 0xFFFF; second = 0x7FFF; third = 0; read = 1 ∷ [] }
+-- "65,526: 65,534 bytes, 7FFF, not whole alone"; W-205: "In salvage 0x7FFF becomes a last continuation"
+pub edge-65526 : edge 65526 ≡ record { size = 65534; room = 65534; first = 0xFFFF; second = 0x7FFF; third = 0; read = 1 ∷ []; salvage = 0 ∷ 65526 ∷ 65534 ∷ [] }
 unfolding edge edgeOf answer full frameSize written chunks chunksFuel readAt absorb absorbFuel look payloadOf endOf frameWalk continuations walkFuel
 edge-65526 = refl
 
 -- "65,527: 65,537 bytes, FFFF then 0003"
-pub edge-65527 : edge 65527 ≡ record { size = 65537; room = 65537; first = 0xFFFF; second = 0xFFFF; third = 0x0003; read = 0 ∷ 65527 ∷ 65537 ∷ [] }
+pub edge-65527 : edge 65527 ≡ record { size = 65537; room = 65537; first = 0xFFFF; second = 0xFFFF; third = 0x0003; read = 0 ∷ 65527 ∷ 65537 ∷ []; salvage = 0 ∷ 65527 ∷ 65537 ∷ [] }
 unfolding edge edgeOf answer full frameSize written chunks chunksFuel readAt absorb absorbFuel look payloadOf endOf frameWalk continuations walkFuel
 edge-65527 = refl
 

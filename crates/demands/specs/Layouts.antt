@@ -38,13 +38,17 @@ pub record ReadAs (reads : Reader) (w : Structure) (b : List ℕ) : Type 0 where
   pub says : Says w b read
   pub consumed : endOf 0 (read .segments) ≡ length b
 
--- What has the layout is read as it says, but for two differences: a full last chunk, and type 5.
+-- What has the layout is read as it says, but for two differences of the reader's: a full last chunk, and type 5.
 abbrev pub ReadsLayout : Reader → Type 0
 ReadsLayout reads = (w : Structure) (b : List ℕ) (l : Dss w b) → (FullLast l → ⊥) → (w .type ≡ 5 → ⊥) → ReadAs reads w b
 
 -- The first difference, "a full last chunk": the reader waits for another, and alone it isn't whole.
 abbrev pub WaitsBehindFull : Reader → Type 0
 WaitsBehindFull reads = (w : Structure) (b : List ℕ) (l : Dss w b) → FullLast l → reads b 0 ≡ refused (record { why = Incomplete; place = 0 })
+
+-- W-205, "0x7FFF is a full last chunk": under salvage's rules the first difference is gone, and type 5 is the only one.
+abbrev pub ReadsFullLast : Reader → Type 0
+ReadsFullLast reads = (w : Structure) (b : List ℕ) (l : Dss w b) → (w .type ≡ 5 → ⊥) → ReadAs reads w b
 
 -- The second difference, "type 5": refused, 3 with 5, at its head.
 abbrev pub RefusesFive : Reader → Type 0

@@ -3,6 +3,7 @@ pub mod Layouts
 pub mod Table
 pub mod Edges
 pub mod AllFrames
+pub mod AsRead
 pub mod Longer
 pub mod Mending
 pub mod DeadEdges

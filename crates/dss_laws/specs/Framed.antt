@@ -10,9 +10,10 @@ use Rattle.wire.specs.Bytes.{be16}
 use Rattle.dss_head.specs.declared.Chunk.the-variants.{Last, Full}
 use Rattle.dss_frame.specs.Rules.{chunkUnder}
 use Rattle.dss_frame.specs.declared.Rules.{Rules}
+use Rattle.dss_frame.specs.declared.Rules.the-variants.{Reader, Salvage}
 use Rattle.dss_frame.specs.Segments.{Segment, whole, short, behind, continuation, first, continuations, frameWalk, endOf}
 use Rattle.wire.specs.Laws.{pick-yes, pick-no}
-use Rattle.dss_laws.specs.RawLengths.{chunk-last, chunk-full, chunk-full-low}
+use Rattle.dss_laws.specs.RawLengths.{MayEnd, chunk-ends, chunk-full, chunk-full-low}
 use Rattle.dss_laws.specs.Continuations.{continuations-short, continuations-last, continuations-full}
 use Rattle.wire.specs.Places.{here-two, here-first, here-length}
 
@@ -79,14 +80,13 @@ later-walk (suc k) rules s q l r a b c =
     ∙ ap (behind (continuation q 32767)) (later-walk k rules s (q + 32767) l (run-next r) a b (omega arith))
 
 -- where 0x7FFF is full, one more is missing behind it
-later-short : (k : ℕ) (rules : Rules) (s : List ℕ) (q : ℕ) → chunkUnder rules 0x7FFF ≡ Full → Run s q k 32767 → length s - q ≡ k * 32767 + 32767 → continuations rules s q ≡ short
-later-short zero rules s q full r c =
-    let e : be16 s q ≡ 32767 = run-only r in
-    continuations-full rules s q (ap (chunkUnder rules) e ∙ full) (omega arith)
-    ∙ ap (behind (continuation q 32767)) (continuations-short rules s (q + 32767) (omega arith))
-later-short (suc k) rules s q full r c =
-    continuations-full rules s q (chunk-full rules (be16 s q) (run-first r)) (omega arith)
-    ∙ ap (behind (continuation q 32767)) (later-short k rules s (q + 32767) full (run-next r) (omega arith))
+later-short : (k : ℕ) (s : List ℕ) (q : ℕ) → Run s q k 32767 → length s - q ≡ k * 32767 + 32767 → continuations Reader s q ≡ short
+later-short zero s q r c =
+    continuations-full Reader s q (chunk-full-low (be16 s q) (run-only r)) (omega arith)
+    ∙ ap (behind (continuation q 32767)) (continuations-short Reader s (q + 32767) (omega arith))
+later-short (suc k) s q r c =
+    continuations-full Reader s q (chunk-full Reader (be16 s q) (run-first r)) (omega arith)
+    ∙ ap (behind (continuation q 32767)) (later-short k s (q + 32767) (run-next r) (omega arith))
 
 -- ---- the walk over a frame
 
@@ -119,31 +119,39 @@ fields-run {k} {r} {b} s rest p w e =
 abbrev pub Even : ℕ → Type 0
 Even n = record { times : ℕ; size : n ≡ 32761 + (times + 1) * 32765 }
 
+-- the sizes of which a frame is whole: for the reader all but those, and for salvage all
+abbrev pub WholeUnder : Rules → ℕ → Type 0
+WholeUnder Reader n = Even n → ⊥
+WholeUnder Salvage n = Unit {0}
+
+may-end : (rules : Rules) (n k r : ℕ) → WholeUnder rules n → n ≡ 32761 + k * 32765 + r → MayEnd rules (r + 2)
+may-end Reader n k r u e = λ q. u (record { times = k; size = omega arith })
+may-end Salvage n k r u e = tt
+
 -- the frame's segments, wherever it stands and whatever follows
-pub framed-walk : {n : ℕ} {b : List ℕ} (f : Framed n b) → (Even n → ⊥) → (rules : Rules) (s rest : List ℕ) (p : ℕ) → drop p s ≡ b ++ rest → frameWalk rules s p ≡ whole (segmentsOf f p)
+pub framed-walk : {n : ℕ} {b : List ℕ} (f : Framed n b) (rules : Rules) → WholeUnder rules n → (s rest : List ℕ) (p : ℕ) → drop p s ≡ b ++ rest → frameWalk rules s p ≡ whole (segmentsOf f p)
 unfolding segmentsOf
-framed-walk {n} {b} (single h e w) u rules s rest p d =
+framed-walk {n} {b} (single h e w) rules u s rest p d =
     let l : length s - p ≡ length b + length rest = here-length s b rest p d in
     walk-single rules s p (n + 6) (here-first s b rest p d (omega arith) ∙ w) (omega arith) (omega arith) (omega arith)
-framed-walk {n} {b} (several k r e lo hi w) u rules s rest p d =
+framed-walk {n} {b} (several k r e lo hi w) rules u s rest p d =
     let l : length s - p ≡ length b + length rest = here-length s b rest p d in
     let z : length b ≡ (k + 1) * 32767 + (r + 2) = w .size in
-    let ne : r ≡ 32765 → ⊥ = λ (q : r ≡ 32765). u (record { times = k; size = omega arith }) in
     walk-several rules s p (here-first s b rest p d (omega arith) ∙ w .starts) (omega arith)
-    ∙ ap (behind (first p 32767)) (later-walk k rules s (p + 32767) (r + 2) (fields-run s rest p w d) (omega arith) (chunk-last rules (r + 2) (omega arith) (omega arith)) (omega arith))
+    ∙ ap (behind (first p 32767)) (later-walk k rules s (p + 32767) (r + 2) (fields-run s rest p w d) (omega arith) (chunk-ends rules (r + 2) (omega arith) (omega arith) (may-end rules n k r u e)) (omega arith))
 
 -- behind any bytes and before any others
-pub framed-between : {n : ℕ} {b : List ℕ} (f : Framed n b) → (Even n → ⊥) → (rules : Rules) (pre rest : List ℕ) → frameWalk rules (pre ++ (b ++ rest)) (length pre) ≡ whole (segmentsOf f (length pre))
-framed-between {b = b} f u rules pre rest = framed-walk f u rules (pre ++ (b ++ rest)) rest (length pre) (drop-append-seam pre (b ++ rest))
+pub framed-between : {n : ℕ} {b : List ℕ} (f : Framed n b) (rules : Rules) → WholeUnder rules n → (pre rest : List ℕ) → frameWalk rules (pre ++ (b ++ rest)) (length pre) ≡ whole (segmentsOf f (length pre))
+framed-between {b = b} f rules u pre rest = framed-walk f rules u (pre ++ (b ++ rest)) rest (length pre) (drop-append-seam pre (b ++ rest))
 
--- such a size leaves a frame that stands last short
-pub framed-short : {n : ℕ} {b : List ℕ} → Framed n b → Even n → (rules : Rules) (s : List ℕ) (p : ℕ) → drop p s ≡ b ++ [] → frameWalk rules s p ≡ short
-framed-short {n} {b} (single h e w) u rules s p d = absurd (omega (arith, u .size))
-framed-short {n} {b} (several k r e lo hi w) u rules s p d =
+-- such a size leaves a frame that stands last short for the reader
+pub framed-short : {n : ℕ} {b : List ℕ} → Framed n b → Even n → (s : List ℕ) (p : ℕ) → drop p s ≡ b ++ [] → frameWalk Reader s p ≡ short
+framed-short {n} {b} (single h e w) u s p d = absurd (omega (arith, u .size))
+framed-short {n} {b} (several k r e lo hi w) u s p d =
     let l : length s - p ≡ length b + 0 = here-length s b [] p d in
     let z : length b ≡ (k + 1) * 32767 + (r + 2) = w .size in
     let full : r ≡ 32765 = omega (arith, u .size) in
     let run : Run s (p + 32767) k (r + 2) = fields-run s [] p w d in
     let run′ : Run s (p + 32767) k 32767 = record { full = run .full; last = run .last ∙ omega arith } in
-    walk-several rules s p (here-first s b [] p d (omega arith) ∙ w .starts) (omega arith)
-    ∙ ap (behind (first p 32767)) (later-short k rules s (p + 32767) (chunk-full-low rules 0x7FFF refl) run′ (omega arith))
+    walk-several Reader s p (here-first s b [] p d (omega arith) ∙ w .starts) (omega arith)
+    ∙ ap (behind (first p 32767)) (later-short k s (p + 32767) run′ (omega arith))

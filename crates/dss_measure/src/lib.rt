@@ -17,6 +17,7 @@ use answer::Refused;
 use dss_frame::Rules;
 use dss_head::Chunk;
 use dss_head::DSS_HEADER_LEN;
+use dss_head::DSS_MAX_SEGMENT_LEN;
 use dss_head::DssHeader;
 use dss_head::DssType;
 use dss_head::HeadFound;
@@ -112,13 +113,18 @@ pub fn head_at(run: &[u8], at: usize) -> HeadFound
     }
 }
 
-// What a continuation's raw length says under either's rules.
+// What a continuation's raw length says under either's rules. For salvage a last one may be full.
 pub fn chunk_under(rules: Rules, raw: u16) -> Chunk
     ensures { λ r. ⌜ r ≡ chunkUnder rules raw ⌝ }
 {
     match rules {
         Rules::Reader => dss_head::decide_continuation(raw),
-        Rules::Salvage => dss_head::decide_continuation(raw),
+        Rules::Salvage => {
+            if raw == DSS_MAX_SEGMENT_LEN {
+                return Chunk::Last;
+            }
+            dss_head::decide_continuation(raw)
+        }
     }
 }
 

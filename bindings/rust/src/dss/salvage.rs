@@ -36,6 +36,10 @@ pub enum Entry {
 /// Reads all that can be read of a run: a frame whose head is refused becomes an entry and is stepped over to its end; where
 /// its length is below 6 the reading ends there.
 ///
+/// A continuation of length 7FFF is a frame's last here, as DRDA has it. For `DssReader`, as for db2-proto's, it is one that another
+/// must follow: a payload of 65,526 bytes (or of that and a multiple of 32,765 more) is `None` alone, and swallows the frame behind
+/// it. Salvage hands out both.
+///
 /// ```
 /// use lattrugone::dss::{build_dss_object, salvage, Entry};
 ///
