@@ -14,8 +14,8 @@ use Rattle.dss_salvage.specs.SalvageCall.{salvagedRow, salvagedBytes}
 use Rattle.demands.specs.Table.{Asked, reads, salvages, Outcome, frame, refused, Came, one, plain, p2, handed, ofRefused, ofRead, ofEntry, blank, cameOf}
 use Rattle.demands.specs.Edges.{full, answer}
 
--- A full last chunk takes the frame behind it for the chunk that it waits for: a written payload of 65,526 bytes with `0006D0020007`
--- behind it is read as one frame of 65,530 bytes.
+-- The reader takes a frame behind a full last chunk for one chunk more: a written payload of 65,526 bytes with `0006D0020007` behind it
+-- is read as one frame of 65,530 bytes. (Salvage hands out both: W-205, `handed-out` in `demands/proofs/AsReadExamples`.)
 pub swallowed : answer (written (full 65526) ++ p2) (readAt Reader (written (full 65526) ++ p2) 0) ≡ 0 ∷ 65530 ∷ 65540 ∷ []
 unfolding answer full written chunks chunksFuel readAt absorb absorbFuel look payloadOf endOf frameWalk continuations walkFuel
 swallowed = refl
