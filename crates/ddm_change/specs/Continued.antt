@@ -3,17 +3,15 @@ use Prim.Native.Nat.{ℕ, zero, suc, _+_, _*_, _-_, _/_, _≤_, _<_}
 use native.Mathlib.Omega.{arith}
 use mathlib.Core.Path.{_≡_, refl, sym, ap, ap₂, _∙_}
 use mathlib.Core.List.{List, [], _∷_, _++_, append-nil}
-use lib.Dec.{ltb, leb}
+use lib.Dec.{ltb}
 use lib.ListN.{length, take, drop, length-drop}
 use lib.Seq.{length-take-le, take-all, drop-drop}
-use borrow.Author.Tests.{le-ltb, lt-ltb, ltb-true, ltb-false, leb-true}
+use borrow.Author.Tests.{le-ltb, lt-ltb, ltb-true, ltb-false}
 use Rattle.wire.specs.Bytes.{pick, be16, part}
-use Rattle.wire.specs.Laws.{by, pick-yes, pick-no, pick-by}
-use Rattle.dss_head.specs.declared.Chunk.{Chunk}
-use Rattle.dss_head.specs.declared.Chunk.the-variants.{Dead, Last, Full}
-use Rattle.dss_frame.specs.Rules.{chunkUnder}
+use Rattle.wire.specs.Laws.{by, pick-yes, pick-no}
 use Rattle.dss_frame.specs.declared.Rules.the-variants.{Reader}
-use Rattle.dss_frame.specs.Segments.{Segment, Walk, behind, continuation, step, walkFuel, continuations, payloadOf}
+use Rattle.dss_frame.specs.Segments.{Segment, Walk, behind, continuation, continuations, payloadOf}
+use Rattle.dss_laws.specs.WalkCases.{continuations-by}
 use Rattle.dss_laws.specs.Bounds.{OfWhole, is-whole, is-short, is-dead}
 use Rattle.dss_laws.specs.Framed.{later}
 use Rattle.dss_measure.specs.Walks.{last-two}
@@ -49,24 +47,10 @@ follow-full s q w (is-whole gs r) =
 follow-full s q w is-short = is-short
 follow-full s q w (is-dead d) = is-dead d
 
-walk-follow : (f : ℕ) (s : List ℕ) (q : ℕ) → OfWhole (Follow s q) (walkFuel f Reader s q)
-unfolding walkFuel
-walk-follow zero s q = is-short
-walk-follow (suc f) s q =
-    pick-by (OfWhole (Follow s q)) (ltb (length s - q) 2) _ _ (λ e. is-short)
-    (λ e. by-chunk (chunkUnder Reader (be16 s q)) refl (ltb-false _ _ e) (walk-follow f s (q + 32767)))
-  where
-    by-chunk : (c : Chunk) → chunkUnder Reader (be16 s q) ≡ c → 2 ≤ length s - q → OfWhole (Follow s (q + 32767)) (walkFuel f Reader s (q + 32767))
-        → OfWhole (Follow s q) (step s q c (λ r. walkFuel f Reader s r))
-    by-chunk Dead i l k = is-dead q
-    by-chunk Last i l k =
-        pick-by (OfWhole (Follow s q)) (leb (be16 s q) (length s - q)) _ _
-        (λ e. is-whole _ (follow-last s q (be16 s q) (last-two Reader (be16 s q) i) (omega (arith, leb-true (be16 s q) (length s - q) e)))) (λ e. is-short)
-    by-chunk Full i l k = pick-by (OfWhole (Follow s q)) (leb 32767 (length s - q)) _ _ (λ e. follow-full s q _ k) (λ e. is-short)
-
 pub continuations-follow : (s : List ℕ) (q : ℕ) → OfWhole (Follow s q) (continuations Reader s q)
-unfolding continuations
-continuations-follow s q = walk-follow (suc ((length s - q) / 32767)) s q
+continuations-follow s =
+    continuations-by Reader s (λ q w. OfWhole (Follow s q) w) (λ q. is-short) (λ q l. is-dead q)
+    (λ q l c h. is-whole _ (follow-last s q (be16 s q) (last-two Reader (be16 s q) c) (omega arith))) (λ q w l k. follow-full s q w k)
 
 -- ---- their payload
 

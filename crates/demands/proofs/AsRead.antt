@@ -9,7 +9,7 @@ use lib.Dec.{ltb, leb, eqb}
 use lib.ListN.{length}
 use borrow.Author.Tests.{eqb-true, eqb-false, le-leb}
 use Rattle.wire.specs.Bytes.{pick, be16}
-use Rattle.wire.specs.Laws.{by, pick-yes, pick-same}
+use Rattle.wire.specs.Laws.{by, pick-yes}
 use Rattle.answer.specs.Numbers.{notWhole}
 use Rattle.answer.specs.Rooms.{outOfBounds}
 use Rattle.answer.specs.declared.Refused.{Refused}
@@ -30,114 +30,108 @@ use Rattle.gateway_row.specs.RowWords.{recordWords, joined}
 use Rattle.gateway_salvage.specs.SalvageWords.{entryWords}
 use Rattle.demands.specs.Mending.{waits}
 use Rattle.demands.specs.AsRead.{MeetsFull, NoneFull, entriesOf, SalvagesAsRead, TellsWhy}
+use Rattle.demands.proofs.LongerRuns.{picks}
 use Rattle.demands.proofs.Longer.{frame-refused}
 use Rattle.demands.proofs.LongerTaken.{salvage-reads}
 use Rattle.demands.proofs.Mending.{unwhole-waits}
 
 -- ---- the walk
 
--- from a continuation on, none has length 0x7FFF behind others of FFFF
-abbrev None : List ℕ → ℕ → Type 0
-None s q = (k : ℕ) → ((i : ℕ) → i < k → 0xFFFF ≤ be16 s (q + i * 32767)) → be16 s (q + k * 32767) ≡ 0x7FFF → ⊥
+-- the walk from a continuation on comes to one of length 0x7FFF, behind others of FFFF
+record Meets (s : List ℕ) (q : ℕ) : Type 0 where
+  before : ℕ
+  lengths : (i : ℕ) → i < before → 0xFFFF ≤ be16 s (q + i * 32767)
+  full : be16 s (q + before * 32767) ≡ 0x7FFF
 
-none-here : (s : List ℕ) (q : ℕ) → None s q → be16 s q ≡ 0x7FFF → ⊥
-none-here s q n e = let z : q + 0 * 32767 ≡ q = omega arith in n 0 (λ i h. absurd (omega arith)) (ap (be16 s) z ∙ e)
+meets-here : (s : List ℕ) (q : ℕ) → be16 s q ≡ 0x7FFF → Meets s q
+meets-here s q e =
+    let z : q + 0 * 32767 ≡ q = omega arith in
+    record { before = 0; lengths = λ i h. absurd (omega arith); full = ap (be16 s) z ∙ e }
 
 -- one length more stands before
-longer : (s : List ℕ) (q : ℕ) (k : ℕ) → 0xFFFF ≤ be16 s q → ((i : ℕ) → i < k → 0xFFFF ≤ be16 s (q + 32767 + i * 32767)) → (i : ℕ) → i ≤ k → 0xFFFF ≤ be16 s (q + i * 32767)
-longer s q k h full zero l = let z : q ≡ q + 0 * 32767 = omega arith in subst (λ (m : ℕ). 0xFFFF ≤ be16 s m) z h
-longer s q k h full (suc i) l = let z : q + 32767 + i * 32767 ≡ q + suc i * 32767 = omega arith in subst (λ (m : ℕ). 0xFFFF ≤ be16 s m) z (full i (omega arith))
+longer : (s : List ℕ) (q : ℕ) → 0xFFFF ≤ be16 s q → (m : Meets s (q + 32767)) (i : ℕ) → i ≤ m .before → 0xFFFF ≤ be16 s (q + i * 32767)
+longer s q h m zero l = let z : q ≡ q + 0 * 32767 = omega arith in subst (λ (k : ℕ). 0xFFFF ≤ be16 s k) z h
+longer s q h m (suc i) l =
+    let z : q + 32767 + i * 32767 ≡ q + suc i * 32767 = omega arith in
+    subst (λ (k : ℕ). 0xFFFF ≤ be16 s k) z (m .lengths i (omega arith))
 
-none-next : (s : List ℕ) (q : ℕ) → None s q → 0xFFFF ≤ be16 s q → None s (q + 32767)
-none-next s q n h k full e =
-    let z : q + suc k * 32767 ≡ q + 32767 + k * 32767 = omega arith in
-    n (suc k) (λ i l. longer s q k h full i (omega arith)) (ap (be16 s) z ∙ e)
+meets-behind : (s : List ℕ) (q : ℕ) → 0xFFFF ≤ be16 s q → Meets s (q + 32767) → MeetsFull s q
+meets-behind s q h m =
+    let z : q + (m .before + 1) * 32767 ≡ q + 32767 + m .before * 32767 = omega arith in
+    record { before = m .before; lengths = longer s q h m; full = ap (be16 s) z ∙ m .full }
 
-none-behind : (s : List ℕ) (p : ℕ) → (MeetsFull s p → ⊥) → be16 s p ≡ 0xFFFF → None s (p + 32767)
-none-behind s p n raw k full e =
-    let z : p + (k + 1) * 32767 ≡ p + 32767 + k * 32767 = omega arith in
-    n (record { before = k; lengths = longer s p k (omega arith) full; full = ap (be16 s) z ∙ e })
+meets-next : (s : List ℕ) (q : ℕ) → 0xFFFF ≤ be16 s q → Meets s (q + 32767) → Meets s q
+meets-next s q h m =
+    let f = meets-behind s q h m in
+    record { before = f .before + 1; lengths = λ i l. f .lengths i (omega arith); full = f .full }
 
-fuel-same : (f : ℕ) (s : List ℕ) (q : ℕ) → None s q → walkFuel f Reader s q ≡ walkFuel f Salvage s q
-unfolding walkFuel
-fuel-same zero s q n = refl
-fuel-same (suc f) s q n =
-    pick-same (ltb (length s - q) 2) (λ e. refl)
-    (λ e. by-chunk (chunkUnder Reader (be16 s q)) refl (λ h. fuel-same f s (q + 32767) (none-next s q n h))
-    ∙ ap (λ (c : Chunk). step s q c (λ r. walkFuel f Salvage s r)) (sym (chunk-same (be16 s q) (none-here s q n))))
-  where
-    by-chunk : (c : Chunk) → chunkUnder Reader (be16 s q) ≡ c → (0xFFFF ≤ be16 s q → walkFuel f Reader s (q + 32767) ≡ walkFuel f Salvage s (q + 32767))
-        → step s q c (λ r. walkFuel f Reader s r) ≡ step s q c (λ r. walkFuel f Salvage s r)
-    by-chunk Dead e go = refl
-    by-chunk Last e go = refl
-    by-chunk Full e go =
-        pick-same (leb 32767 (length s - q)) (λ t. ap (behind (continuation q 32767)) (go (full-above (be16 s q) e (none-here s q n)))) (λ t. refl)
+-- the reader's walk and salvage's are the same; or salvage's is whole, and comes to such a length
+data Alike (Met : Type 0) : Walk → Walk → Type 0 where
+  alike : (w : Walk) → Alike Met w w
+  ended : (w : Walk) (gs : List Segment) → Met → Alike Met w (whole gs)
 
-pub walk-same : (s : List ℕ) (p : ℕ) → (MeetsFull s p → ⊥) → frameWalk Reader s p ≡ frameWalk Salvage s p
-unfolding frameWalk continuations
-walk-same s p n =
-    pick-same (ltb (length s - p) 6) (λ e. refl)
-    (λ e. pick-same (eqb (be16 s p) 0xFFFF)
-    (λ t. pick-same (leb 32767 (length s - p))
-    (λ u. ap (behind (first p 32767)) (fuel-same (suc ((length s - (p + 32767)) / 32767)) s (p + 32767) (none-behind s p n (eqb-true (be16 s p) 0xFFFF t)))) (λ u. refl))
-    (λ t. refl))
+behind-alike : {Met Met′ : Type 0} (g : Segment) {w w′ : Walk} → (Met → Met′) → Alike Met w w′ → Alike Met′ (behind g w) (behind g w′)
+behind-alike g f (alike w) = alike (behind g w)
+behind-alike g f (ended w gs m) = ended (behind g w) (g ∷ gs) (f m)
 
--- ---- where it isn't whole
+-- what the two come to behind a continuation, by what they decide of it
+module _ (f : ℕ) (s : List ℕ) (q : ℕ) where
+  abbrev Parts : Chunk → Chunk → Type 0
+  Parts c d = Alike (Meets s q) (step s q c (λ r. walkFuel f Reader s r)) (step s q d (λ r. walkFuel f Salvage s r))
 
--- the reader's walk and salvage's, of anything: the same, or salvage's is whole
-data Alike : Walk → Walk → Type 0 where
-  alike : (w : Walk) → Alike w w
-  ended : (w : Walk) (gs : List Segment) → Alike w (whole gs)
+  abbrev Decided : Type 0
+  Decided = Parts (chunkUnder Reader (be16 s q)) (chunkUnder Salvage (be16 s q))
 
-both-alike : (b : Bool) {x x′ y y′ : Walk} → Alike x x′ → Alike y y′ → Alike (pick b x y) (pick b x′ y′)
-both-alike true u v = u
-both-alike false u v = v
+  decided : (c d : Chunk) → chunkUnder Reader (be16 s q) ≡ c → chunkUnder Salvage (be16 s q) ≡ d → Parts c d → Decided
+  decided c d e k p = subst (λ (x : Chunk). Parts x (chunkUnder Salvage (be16 s q))) (sym e) (subst (Parts c) (sym k) p)
 
-behind-alike : (g : Segment) {w w′ : Walk} → Alike w w′ → Alike (behind g w) (behind g w′)
-behind-alike g (alike w) = alike (behind g w)
-behind-alike g (ended w gs) = ended (behind g w) (g ∷ gs)
+  at-full : be16 s q ≡ 0x7FFF → Decided
+  at-full e =
+      decided Full Last (chunk-full-low (be16 s q) e) (chunk-last-full (be16 s q) (omega arith) (omega arith))
+      (picks (Alike (Meets s q)) (leb 32767 (length s - q)) (leb (be16 s q) (length s - q)) (ap (λ (n : ℕ). leb n (length s - q)) (sym e))
+      (λ t. ended _ _ (meets-here s q e)) (λ t. alike short))
 
-fuel-alike : (f : ℕ) (s : List ℕ) (q : ℕ) → Alike (walkFuel f Reader s q) (walkFuel f Salvage s q)
+  elsewhere : (be16 s q ≡ 0x7FFF → ⊥) → Alike (Meets s (q + 32767)) (walkFuel f Reader s (q + 32767)) (walkFuel f Salvage s (q + 32767)) → (c : Chunk) → chunkUnder Reader (be16 s q) ≡ c → Decided
+  elsewhere ne go Dead e = decided Dead Dead e (chunk-same (be16 s q) ne ∙ e) (alike _)
+  elsewhere ne go Last e = decided Last Last e (chunk-same (be16 s q) ne ∙ e) (alike _)
+  elsewhere ne go Full e =
+      decided Full Full e (chunk-same (be16 s q) ne ∙ e)
+      (picks (Alike (Meets s q)) (leb 32767 (length s - q)) (leb 32767 (length s - q)) refl
+      (λ t. behind-alike (continuation q 32767) (meets-next s q (full-above (be16 s q) e ne)) go) (λ t. alike short))
+
+fuel-alike : (f : ℕ) (s : List ℕ) (q : ℕ) → Alike (Meets s q) (walkFuel f Reader s q) (walkFuel f Salvage s q)
 unfolding walkFuel
 fuel-alike zero s q = alike short
-fuel-alike (suc f) s q = both-alike (ltb (length s - q) 2) (alike short) (by-raw (fuel-alike f s (q + 32767)))
-  where
-    by-chunk : (c : Chunk) → Alike (walkFuel f Reader s (q + 32767)) (walkFuel f Salvage s (q + 32767)) → Alike (step s q c (λ r. walkFuel f Reader s r)) (step s q c (λ r. walkFuel f Salvage s r))
-    by-chunk Dead go = alike _
-    by-chunk Last go = alike _
-    by-chunk Full go = both-alike (leb 32767 (length s - q)) (behind-alike (continuation q 32767) go) (alike short)
+fuel-alike (suc f) s q =
+    picks (Alike (Meets s q)) (ltb (length s - q) 2) (ltb (length s - q) 2) refl (λ e. alike short)
+    (λ e. by (eqb (be16 s q) 0x7FFF) (λ t. at-full f s q (eqb-true (be16 s q) 0x7FFF t))
+    (λ t. elsewhere f s q (eqb-false (be16 s q) 0x7FFF t) (fuel-alike f s (q + 32767)) (chunkUnder Reader (be16 s q)) refl))
 
-    at-full : be16 s q ≡ 0x7FFF → Alike (step s q Full (λ r. walkFuel f Reader s r)) (step s q Last (λ r. walkFuel f Salvage s r))
-    at-full e =
-        subst (λ (n : ℕ). Alike (step s q Full (λ r. walkFuel f Reader s r)) (pick (leb n (length s - q)) (whole (continuation q (be16 s q) ∷ [])) short)) (sym e)
-        (both-alike (leb 32767 (length s - q)) (ended _ _) (alike short))
-
-    by-raw : Alike (walkFuel f Reader s (q + 32767)) (walkFuel f Salvage s (q + 32767))
-        → Alike (step s q (chunkUnder Reader (be16 s q)) (λ r. walkFuel f Reader s r)) (step s q (chunkUnder Salvage (be16 s q)) (λ r. walkFuel f Salvage s r))
-    by-raw go =
-        by (eqb (be16 s q) 0x7FFF)
-        (λ t. let e : be16 s q ≡ 0x7FFF = eqb-true (be16 s q) 0x7FFF t in
-        subst (λ (c : Chunk). Alike (step s q c (λ r. walkFuel f Reader s r)) (step s q (chunkUnder Salvage (be16 s q)) (λ r. walkFuel f Salvage s r))) (sym (chunk-full-low (be16 s q) e))
-        (subst (λ (c : Chunk). Alike (step s q Full (λ r. walkFuel f Reader s r)) (step s q c (λ r. walkFuel f Salvage s r))) (sym (chunk-last-full (be16 s q) (omega arith) (omega arith)))
-        (at-full e)))
-        (λ t. subst (λ (c : Chunk). Alike (step s q (chunkUnder Reader (be16 s q)) (λ r. walkFuel f Reader s r)) (step s q c (λ r. walkFuel f Salvage s r)))
-        (sym (chunk-same (be16 s q) (eqb-false (be16 s q) 0x7FFF t))) (by-chunk (chunkUnder Reader (be16 s q)) go))
-
-frame-alike : (s : List ℕ) (p : ℕ) → Alike (frameWalk Reader s p) (frameWalk Salvage s p)
+frame-alike : (s : List ℕ) (p : ℕ) → Alike (MeetsFull s p) (frameWalk Reader s p) (frameWalk Salvage s p)
 unfolding frameWalk continuations
 frame-alike s p =
-    both-alike (ltb (length s - p) 6) (alike short)
-    (both-alike (eqb (be16 s p) 0xFFFF)
-    (both-alike (leb 32767 (length s - p)) (behind-alike (first p 32767) (fuel-alike (suc ((length s - (p + 32767)) / 32767)) s (p + 32767))) (alike short))
-    (alike _))
+    picks (Alike (MeetsFull s p)) (ltb (length s - p) 6) (ltb (length s - p) 6) refl (λ e. alike short)
+    (λ e. picks (Alike (MeetsFull s p)) (eqb (be16 s p) 0xFFFF) (eqb (be16 s p) 0xFFFF) refl
+    (λ t. picks (Alike (MeetsFull s p)) (leb 32767 (length s - p)) (leb 32767 (length s - p)) refl
+    (λ u. behind-alike (first p 32767) (meets-behind s p (omega (arith, eqb-true (be16 s p) 0xFFFF t))) (fuel-alike (suc ((length s - (p + 32767)) / 32767)) s (p + 32767))) (λ u. alike short))
+    (λ t. alike _))
 
-alike-short : (w w′ : Walk) → Alike w w′ → w′ ≡ short → w ≡ short
+-- where none is met, they are the same
+pub walk-same : (s : List ℕ) (p : ℕ) → (MeetsFull s p → ⊥) → frameWalk Reader s p ≡ frameWalk Salvage s p
+walk-same s p n = go (frame-alike s p)
+  where
+    go : {w w′ : Walk} → Alike (MeetsFull s p) w w′ → w ≡ w′
+    go (alike w) = refl
+    go (ended w gs m) = absurd (n m)
+
+-- and where salvage's isn't whole
+alike-short : {Met : Type 0} (w w′ : Walk) → Alike Met w w′ → w′ ≡ short → w ≡ short
 alike-short w w′ (alike x) e = e
-alike-short w w′ (ended x gs) e = let z : _≡_ {A = ℕ} 0 1 = cc in absurd (omega arith)
+alike-short w w′ (ended x gs m) e = let z : _≡_ {A = ℕ} 0 1 = cc in absurd (omega arith)
 
-alike-dead : (w w′ : Walk) (q : ℕ) → Alike w w′ → w′ ≡ dead q → w ≡ dead q
+alike-dead : {Met : Type 0} (w w′ : Walk) (q : ℕ) → Alike Met w w′ → w′ ≡ dead q → w ≡ dead q
 alike-dead w w′ q (alike x) e = e
-alike-dead w w′ q (ended x gs) e = let z : _≡_ {A = ℕ} 0 1 = cc in absurd (omega arith)
+alike-dead w w′ q (ended x gs m) e = let z : _≡_ {A = ℕ} 0 1 = cc in absurd (omega arith)
 
 pub tells-why : TellsWhy (λ s p. frameEnd s p)
 unfolding frameEnd

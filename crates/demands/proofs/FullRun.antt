@@ -25,7 +25,7 @@ use Rattle.gateway_words.specs.Words.{doneWords}
 use Rattle.gateway_salvage.specs.SalvageWords.{SalvagesInWords}
 use Rattle.demands.specs.Demands.{Spoilt, Item, good, spoilt, run, AllDue}
 use Rattle.demands.proofs.Salvaging.{salvages}
-use Rattle.demands.proofs.SalvageKeeps.{allBytes, recovers}
+use Rattle.demands.proofs.SalvageKeeps.{allBytes, answered}
 use Rattle.demands.proofs.KeptRows.{recovers-words}
 use Rattle.demands.proofs.SeveralRun.{sized, sendable, agree, small}
 
@@ -102,10 +102,7 @@ sizes = (refl, refl, refl)
 -- with a room of 65,528 bytes and a row of four, whatever its contract allows answers 0
 pub fulls-answered : (room : List ℕ) (row : List SalvageEntry) → 65528 ≤ length room → 4 ≤ length row → (r : Salvaged) (roomAfter : List ℕ) (rowAfter : List SalvageEntry)
     → call.Salvages (run fulls) room row r roomAfter rowAfter → r ≡ Done 4 65528 131082
-fulls-answered room row h k r roomAfter rowAfter p =
-    recovers fulls room row (omega (arith, sizes)) (omega (arith, sizes)) r roomAfter rowAfter p .is
-    ∙ ap₂ (λ (n m : ℕ). Done n m (length (run fulls))) (sizes .0) (sizes .1)
-    ∙ ap (Done 4 65528) (sizes .2)
+fulls-answered = answered fulls 4 65528 131082 sizes
 
 -- and so does the exported function, lent as many words as four records and an answer have
 pub fulls-in-words : (room row words : List ℕ) → 65528 ≤ length room → 32 ≤ length row → 8 ≤ length words → (n : ℕ) (room-after row-after answer : List ℕ)

@@ -56,6 +56,10 @@ mends-later walk s t o m =
       walks = ap walk (sym (append-assoc s t (m .more))) ∙ m .walks;
     }
 
+-- with zeros alone
+mends-zeros : (walk : List ℕ → Walk) (s : List ℕ) (n : ℕ) (gs : List Segment) → walk (s ++ zeros n) ≡ whole gs → Mends walk s
+mends-zeros walk s n gs e = record { more = zeros n; bytes = octets-zeros n; segments = gs; walks = e }
+
 module _ (rules : Rules) where
   abbrev From : ℕ → List ℕ → Walk
   From q s = continuations rules s q
@@ -93,12 +97,7 @@ module _ (rules : Rules) where
   last-mends s q l c =
       let n : ℕ = be16 s q - (length s - q) in
       let raw : be16 (s ++ zeros n) q ≡ be16 s q = be16-front s (zeros n) q (omega arith) in
-      record {
-        more = zeros n;
-        bytes = octets-zeros n;
-        segments = _;
-        walks = continuations-last rules (s ++ zeros n) q (omega (arith, long s n)) (ap (chunkUnder rules) raw ∙ c) (omega (arith, long s n, raw));
-      }
+      mends-zeros (From q) s n _ (continuations-last rules (s ++ zeros n) q (omega (arith, long s n)) (ap (chunkUnder rules) raw ∙ c) (omega (arith, long s n, raw)))
 
   full-mends : (s : List ℕ) (q : ℕ) → 2 ≤ length s - q → length s - q < 32767 → chunkUnder rules (be16 s q) ≡ Full → Mends (From q) s
   full-mends s q l k c =
@@ -183,12 +182,7 @@ module _ (rules : Rules) where
     one-mends s l ne =
         let n : ℕ = be16 s p - (length s - p) in
         let raw : be16 (s ++ zeros n) p ≡ be16 s p = be16-front s (zeros n) p (omega arith) in
-        record {
-          more = zeros n;
-          bytes = octets-zeros n;
-          segments = _;
-          walks = first-only (s ++ zeros n) (omega (arith, long s n)) (λ e. ne (sym raw ∙ e)) (omega (arith, long s n, raw));
-        }
+        mends-zeros At s n _ (first-only (s ++ zeros n) (omega (arith, long s n)) (λ e. ne (sym raw ∙ e)) (omega (arith, long s n, raw)))
 
     several-mends : (s : List ℕ) → 6 ≤ length s - p → be16 s p ≡ 0xFFFF → length s - p < 32767 → Mends At s
     several-mends s l raw k =

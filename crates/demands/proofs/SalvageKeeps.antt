@@ -75,3 +75,12 @@ recovers items room row h k r roomAfter rowAfter p =
       room-is = p .room-is ∙ pick-yes _ _ fit ∙ ap (splice room 0) (e .0);
       row-is = p .row-is ∙ pick-yes _ _ fit;
     }
+
+-- so in numbers, where the numbers of the items are known
+pub answered : (items : List (Item written)) (count bytes long : ℕ) → (length items ≡ count) × (length (allBytes items) ≡ bytes) × (length (run items) ≡ long)
+    → (room : List ℕ) (row : List SalvageEntry) → bytes ≤ length room → count ≤ length row → (r : Salvaged) (roomAfter : List ℕ) (rowAfter : List SalvageEntry)
+    → Salvages (run items) room row r roomAfter rowAfter → r ≡ Done count bytes long
+answered items count bytes long e room row h k r roomAfter rowAfter p =
+    recovers items room row (omega (arith, e)) (omega (arith, e)) r roomAfter rowAfter p .is
+    ∙ ap₂ (λ (n m : ℕ). Done n m (length (run items))) (e .0) (e .1)
+    ∙ ap (Done count bytes) (e .2)

@@ -3,7 +3,7 @@
 use Prim.Native.Nat.{ℕ, zero, suc, _+_, _*_, _≤_, _<_}
 use native.Mathlib.Omega.{arith}
 use native.Mathlib.Decide.{decLe}
-use mathlib.Core.Path.{_≡_, refl, sym, ap, ap₂, subst, _∙_}
+use mathlib.Core.Path.{_≡_, refl, sym, subst, _∙_}
 use mathlib.Core.Logic.{inl, inr}
 use mathlib.Core.Bool.{Bool, true, false}
 use mathlib.Core.List.{List, [], _∷_, _++_}
@@ -22,7 +22,7 @@ use Rattle.dss_salvage.specs.declared.Salvaged.{Salvaged}
 use Rattle.dss_salvage.specs.declared.Salvaged.the-variants.{Done}
 use Rattle.demands.specs.Demands.{Sendable, Spoilt, LengthField, Item, good, spoilt, run, AllDue}
 use Rattle.demands.proofs.Salvaging.{salvages}
-use Rattle.demands.proofs.SalvageKeeps.{allBytes, recovers}
+use Rattle.demands.proofs.SalvageKeeps.{allBytes, answered}
 
 -- a frame of so many bytes of payload, all alike
 unfoldable pub sized : DssType → Bool → ℕ → Sent
@@ -133,7 +133,4 @@ sizes = (refl, refl, refl)
 -- with a room of 32,763 bytes and a row of three, whatever its contract allows answers 0
 pub several-answered : (room : List ℕ) (row : List SalvageEntry) → 32763 ≤ length room → 3 ≤ length row → (r : Salvaged) (roomAfter : List ℕ) (rowAfter : List SalvageEntry)
     → call.Salvages (run several) room row r roomAfter rowAfter → r ≡ Done 3 32763 65547
-several-answered room row h k r roomAfter rowAfter p =
-    recovers several room row (omega (arith, sizes)) (omega (arith, sizes)) r roomAfter rowAfter p .is
-    ∙ ap₂ (λ (n m : ℕ). Done n m (length (run several))) (sizes .0) (sizes .1)
-    ∙ ap (Done 3 32763) (sizes .2)
+several-answered = answered several 3 32763 65547 sizes

@@ -47,7 +47,8 @@ behind g (dead q) = dead q
 abbrev pub continuation : ℕ → ℕ → Segment
 continuation q n = record { at = q; framing = 2; dropped = 0; end = q + n }
 
--- "0 and 1 are never whole; 2 to 0x7FFE and 0x8000 to 0xFFFE are the last; 0x7FFF and 0xFFFF take 32,767 bytes and another must follow"
+-- What becomes of a continuation, by what the rules decide: one that is never whole; a last one, of as many bytes as its length says;
+-- a full one, which takes "32,767 bytes and another must follow"
 abbrev pub step : List ℕ → ℕ → Chunk → (ℕ → Walk) → Walk
 step s q Dead more = dead q
 step s q Last more = pick (leb (be16 s q) (length s - q)) (whole (continuation q (be16 s q) ∷ [])) short

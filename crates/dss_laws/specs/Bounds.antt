@@ -1,25 +1,23 @@
 -- A frame that is read takes six bytes at least and ends inside the run: what a salvage reading's count and cover rest on.
-use Prim.Native.Nat.{ℕ, zero, suc, _+_, _-_, _/_, _≤_}
+use Prim.Native.Nat.{ℕ, zero, suc, _+_, _-_, _≤_}
 use native.Mathlib.Omega.{arith}
 use mathlib.Core.Bool.{Bool}
 use mathlib.Core.List.{List, [], _∷_, _++_}
 use lib.Dec.{ltb, leb, eqb}
 use lib.ListN.{length}
-use borrow.Author.Tests.{ltb-false, leb-true}
+use borrow.Author.Tests.{ltb-false}
 use Rattle.wire.specs.Bytes.{be16}
 use Rattle.wire.specs.Laws.{pick-by}
 use Rattle.answer.specs.declared.Refused.{Refused}
 use Rattle.dss_head.specs.Heads.{headAt}
-use Rattle.dss_head.specs.declared.Chunk.{Chunk}
-use Rattle.dss_head.specs.declared.Chunk.the-variants.{Dead, Last, Full}
 use Rattle.dss_head.specs.declared.DssHeader.{DssHeader}
 use Rattle.dss_head.specs.declared.HeadFound.{HeadFound}
 use Rattle.dss_head.specs.declared.HeadFound.the-variants.{Head, Refused as Refuses}
-use Rattle.dss_frame.specs.Rules.{chunkUnder}
 use Rattle.dss_frame.specs.declared.Rules.{Rules}
-use Rattle.dss_frame.specs.Segments.{Segment, Walk, whole, short, dead, behind, continuation, first, step, walkFuel, continuations, frameWalk, payloadOf, endOf}
+use Rattle.dss_frame.specs.Segments.{Segment, Walk, whole, short, dead, behind, continuation, first, continuations, frameWalk, payloadOf, endOf}
 use Rattle.dss_frame.specs.Reading.{Look, look, Read, frame, refused, Frame, withChained, behindFrame, absorb, absorbFuel, readHead, readWalk, readAt, startsExtended}
 use Rattle.dss_laws.specs.Ends.{end-snoc}
+use Rattle.dss_laws.specs.WalkCases.{continuations-by, frame-by}
 use Rattle.dss_laws.specs.Looks.{Sound, finishes, takes, stops, Taken, look-sound}
 
 -- what holds of the segments of a walk, if it is whole
@@ -45,22 +43,10 @@ reaches-one : (s : List ℕ) (q n : ℕ) → q + n ≤ length s → Reaches s q 
 unfolding endOf
 reaches-one s q n h x = omega arith
 
-walk-reaches : (f : ℕ) (rules : Rules) (s : List ℕ) (q : ℕ) → OfWhole (Reaches s q) (walkFuel f rules s q)
-unfolding walkFuel
-walk-reaches zero rules s q = is-short
-walk-reaches (suc f) rules s q =
-    pick-by (OfWhole (Reaches s q)) (ltb (length s - q) 2) _ _ (λ e. is-short)
-    (λ e. by-chunk (chunkUnder rules (be16 s q)) (ltb-false _ _ e) (walk-reaches f rules s (q + 32767)))
-  where
-    by-chunk : (c : Chunk) → 2 ≤ length s - q → OfWhole (Reaches s (q + 32767)) (walkFuel f rules s (q + 32767)) → OfWhole (Reaches s q) (step s q c (λ r. walkFuel f rules s r))
-    by-chunk Dead l k = is-dead q
-    by-chunk Last l k =
-        pick-by (OfWhole (Reaches s q)) (leb (be16 s q) (length s - q)) _ _ (λ e. is-whole _ (reaches-one s q (be16 s q) (omega (arith, leb-true (be16 s q) (length s - q) e)))) (λ e. is-short)
-    by-chunk Full l k = pick-by (OfWhole (Reaches s q)) (leb 32767 (length s - q)) _ _ (λ e. reaches-behind s q (q + 32767) _ _ (omega arith) k) (λ e. is-short)
-
 continuations-reach : (rules : Rules) (s : List ℕ) (q : ℕ) → OfWhole (Reaches s q) (continuations rules s q)
-unfolding continuations
-continuations-reach rules s q = walk-reaches (suc ((length s - q) / 32767)) rules s q
+continuations-reach rules s =
+    continuations-by rules s (λ q w. OfWhole (Reaches s q) w) (λ q. is-short) (λ q l. is-dead q) (λ q l c h. is-whole _ (reaches-one s q (be16 s q) (omega arith)))
+    (λ q w l k. reaches-behind s q (q + 32767) (continuation q 32767) w (omega arith) k)
 
 -- a frame's walk takes six bytes, if its length says so, and ends inside the run
 abbrev pub Six : List ℕ → ℕ → List Segment → Type 0
@@ -77,12 +63,8 @@ six-behind s p w is-short = is-short
 six-behind s p w (is-dead d) = is-dead d
 
 pub walk-six : (rules : Rules) (s : List ℕ) (p : ℕ) → OfWhole (Six s p) (frameWalk rules s p)
-unfolding frameWalk
 walk-six rules s p =
-    pick-by (OfWhole (Six s p)) (ltb (length s - p) 6) _ _ (λ e. is-short)
-    (λ e. pick-by (OfWhole (Six s p)) (eqb (be16 s p) 65535) _ _
-    (λ e₁. pick-by (OfWhole (Six s p)) (leb 32767 (length s - p)) _ _ (λ e₂. six-behind s p _ (continuations-reach rules s (p + 32767))) (λ e₂. is-short))
-    (λ e₁. pick-by (OfWhole (Six s p)) (leb (be16 s p) (length s - p)) _ _ (λ e₂. is-whole _ (six-one s p (ltb-false _ _ e) (leb-true _ _ e₂))) (λ e₂. is-short)))
+    frame-by rules s (OfWhole (Six s p)) p is-short (λ l h. is-whole _ (six-one s p l h)) (λ l. six-behind s p _ (continuations-reach rules s (p + 32767)))
 
 -- what holds of a frame, if one is read
 pub data OfFrame (P : Frame → Type 0) : Read → Type 0 where

@@ -3,6 +3,7 @@ pub mod Continuations
 pub mod Chunks
 pub mod Ends
 pub mod Looks
+pub mod WalkCases
 pub mod Bounds
 pub mod AllFrames
 pub mod Salvaging

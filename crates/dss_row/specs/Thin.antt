@@ -1,5 +1,5 @@
 -- A frame's payload is no longer than the bytes that the frame takes: what sums over payloads rest on.
-use Prim.Native.Nat.{ℕ, zero, suc, _+_, _-_, _/_, _≤_}
+use Prim.Native.Nat.{ℕ, zero, suc, _+_, _-_, _≤_}
 use native.Mathlib.Omega.{arith}
 use mathlib.Core.Path.{_≡_, refl, ap, _∙_}
 use mathlib.Core.Bool.{Bool}
@@ -10,19 +10,17 @@ use Rattle.wire.specs.Bytes.{be16}
 use Rattle.wire.specs.Laws.{pick-by}
 use Rattle.answer.specs.declared.Refused.{Refused}
 use Rattle.dss_head.specs.Heads.{headAt}
-use Rattle.dss_head.specs.declared.Chunk.{Chunk}
-use Rattle.dss_head.specs.declared.Chunk.the-variants.{Dead, Last, Full}
 use Rattle.dss_head.specs.declared.DssType.{DssType}
 use Rattle.dss_head.specs.declared.DssHeader.{DssHeader}
 use Rattle.dss_head.specs.declared.HeadFound.{HeadFound}
 use Rattle.dss_head.specs.declared.HeadFound.the-variants.{Head, Refused as Refuses}
-use Rattle.dss_frame.specs.Rules.{chunkUnder}
 use Rattle.dss_frame.specs.declared.Rules.{Rules}
 use Rattle.dss_frame.specs.declared.Rules.the-variants.{Reader, Salvage}
-use Rattle.dss_frame.specs.Segments.{Segment, bytesOf, Walk, whole, behind, continuation, first, step, walkFuel, continuations, frameWalk, payloadOf, endOf}
+use Rattle.dss_frame.specs.Segments.{Segment, bytesOf, Walk, whole, behind, continuation, first, continuations, frameWalk, payloadOf, endOf}
 use Rattle.dss_frame.specs.Reading.{Look, finished, absorbs, refuses, refusal, look, lookAt, follows, ownObject, Frame, withChained, behindFrame, absorb, absorbFuel, readHead, readWalk, readAt, startsExtended}
 use Rattle.dss_laws.specs.Ends.{end-snoc}
 use Rattle.dss_laws.specs.Looks.{Sound, finishes, takes, stops, look-sound}
+use Rattle.dss_laws.specs.WalkCases.{continuations-by, frame-by}
 use Rattle.dss_laws.specs.Bounds.{OfWhole, is-whole, is-short, is-dead, OfFrame, is-frame, is-refused}
 
 -- segments that follow p hold no more bytes than lie between p and their end
@@ -63,25 +61,15 @@ behind-thin s g w h (is-dead d) = is-dead d
 one-thin : (s : List ℕ) (g : Segment) → g .at ≤ g .end → OfWhole (Thin s (g .at)) (whole (g ∷ []))
 one-thin s g h = is-whole (g ∷ []) (thin-cons s g [] h (thin-none s (g .end)))
 
-walk-thin : (f : ℕ) (rules : Rules) (s : List ℕ) (q : ℕ) → OfWhole (Thin s q) (walkFuel f rules s q)
-unfolding walkFuel
-walk-thin zero rules s q = is-short
-walk-thin (suc f) rules s q =
-    pick-by (OfWhole (Thin s q)) (ltb (length s - q) 2) _ _ (λ e. is-short) (λ e. by-chunk (chunkUnder rules (be16 s q)) (walk-thin f rules s (q + 32767)))
-  where
-    by-chunk : (c : Chunk) → OfWhole (Thin s (q + 32767)) (walkFuel f rules s (q + 32767)) → OfWhole (Thin s q) (step s q c (λ r. walkFuel f rules s r))
-    by-chunk Dead k = is-dead q
-    by-chunk Last k = pick-by (OfWhole (Thin s q)) (leb (be16 s q) (length s - q)) _ _ (λ e. one-thin s (continuation q (be16 s q)) (omega arith)) (λ e. is-short)
-    by-chunk Full k = pick-by (OfWhole (Thin s q)) (leb 32767 (length s - q)) _ _ (λ e. behind-thin s (continuation q 32767) _ (omega arith) k) (λ e. is-short)
+continuations-thin : (rules : Rules) (s : List ℕ) (q : ℕ) → OfWhole (Thin s q) (continuations rules s q)
+continuations-thin rules s =
+    continuations-by rules s (λ q w. OfWhole (Thin s q) w) (λ q. is-short) (λ q l. is-dead q) (λ q l c h. one-thin s (continuation q (be16 s q)) (omega arith))
+    (λ q w l k. behind-thin s (continuation q 32767) w (omega arith) k)
 
 frame-thin : (rules : Rules) (s : List ℕ) (p : ℕ) → OfWhole (Thin s p) (frameWalk rules s p)
-unfolding frameWalk continuations
 frame-thin rules s p =
-    pick-by (OfWhole (Thin s p)) (ltb (length s - p) 6) _ _ (λ e. is-short)
-    (λ e. pick-by (OfWhole (Thin s p)) (eqb (be16 s p) 65535) _ _
-    (λ e₁. pick-by (OfWhole (Thin s p)) (leb 32767 (length s - p)) _ _
-    (λ e₂. behind-thin s (first p 32767) _ (omega arith) (walk-thin (suc ((length s - (p + 32767)) / 32767)) rules s (p + 32767))) (λ e₂. is-short))
-    (λ e₁. pick-by (OfWhole (Thin s p)) (leb (be16 s p) (length s - p)) _ _ (λ e₂. one-thin s (first p (be16 s p)) (omega arith)) (λ e₂. is-short)))
+    frame-by rules s (OfWhole (Thin s p)) p is-short (λ l h. one-thin s (first p (be16 s p)) (omega arith))
+    (λ l. behind-thin s (first p 32767) _ (omega arith) (continuations-thin rules s (p + 32767)))
 
 -- ---- and those that it absorbs
 

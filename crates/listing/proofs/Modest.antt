@@ -1,5 +1,5 @@
 -- What a reading gives is small: the numbers of its line are below 100,000 where the run is at most 65,536 bytes.
-use Prim.Native.Nat.{ℕ, zero, suc, _+_, _-_, _/_, _%_, _≤_, _<_}
+use Prim.Native.Nat.{ℕ, zero, suc, _+_, _-_, _%_, _≤_, _<_}
 use native.Mathlib.Omega.{arith}
 use mathlib.Core.Path.{_≡_, refl}
 use mathlib.Core.Bool.{Bool}
@@ -14,8 +14,6 @@ use Rattle.answer.specs.Numbers.{numberOf, valuesOf}
 use Rattle.answer.specs.declared.Refusal.the-variants.{Incomplete, LengthTooShort, DeadContinuation}
 use Rattle.answer.specs.declared.Refused.{Refused}
 use Rattle.dss_head.specs.Heads.{headWith, headAt}
-use Rattle.dss_head.specs.declared.Chunk.{Chunk}
-use Rattle.dss_head.specs.declared.Chunk.the-variants.{Dead, Last, Full}
 use Rattle.dss_head.specs.declared.DssType.{DssType}
 use Rattle.dss_head.specs.declared.DssType.the-variants.{Request, Reply, Object, Communication}
 use Rattle.dss_head.specs.declared.DssHeader.{DssHeader}
@@ -23,14 +21,14 @@ use Rattle.dss_head.specs.declared.TypeFound.{TypeFound}
 use Rattle.dss_head.specs.declared.TypeFound.the-variants.{Is}
 use Rattle.dss_head.specs.declared.HeadFound.{HeadFound}
 use Rattle.dss_head.specs.declared.HeadFound.the-variants.{Head, Refused as Refuses}
-use Rattle.dss_frame.specs.Rules.{chunkUnder}
 use Rattle.dss_frame.specs.declared.Rules.{Rules}
 use Rattle.dss_frame.specs.declared.Rules.the-variants.{Reader, Salvage}
-use Rattle.dss_frame.specs.Segments.{Segment, Walk, whole, behind, continuation, first, step, walkFuel, continuations, frameWalk, payloadOf, endOf}
+use Rattle.dss_frame.specs.Segments.{Segment, Walk, whole, behind, continuation, first, continuations, frameWalk, payloadOf, endOf}
 use Rattle.dss_frame.specs.Reading.{Look, finished, absorbs, refuses, refusal, look, lookAt, follows, ownObject, Frame, Read, frame, refused, withChained, behindFrame, absorb, absorbFuel, readHead, readWalk, readAt, startsExtended}
 use Rattle.dss_laws.specs.Ends.{end-snoc}
 use Rattle.dss_laws.specs.Dead.{OfDead, dead-at, Inside, frame-dead}
 use Rattle.dss_laws.specs.Looks.{Sound, finishes, takes, stops, Taken, look-sound}
+use Rattle.dss_laws.specs.WalkCases.{continuations-by, frame-by}
 use Rattle.dss_laws.specs.Bounds.{OfWhole, is-whole, is-short, is-dead, Six, walk-six}
 
 -- ---- segments
@@ -52,25 +50,15 @@ few-behind p g w h (is-dead d) = is-dead d
 few-snoc : (p : ℕ) (gs : List Segment) (g : Segment) → Few p gs → endOf p gs + 1 ≤ g .end → Few p (gs ++ (g ∷ []))
 few-snoc p gs g k h = omega (arith, length-append gs (g ∷ []), end-snoc p gs g)
 
-walk-few : (f : ℕ) (rules : Rules) (s : List ℕ) (q : ℕ) → OfWhole (Few q) (walkFuel f rules s q)
-unfolding walkFuel
-walk-few zero rules s q = is-short
-walk-few (suc f) rules s q =
-    pick-by (OfWhole (Few q)) (ltb (length s - q) 2) _ _ (λ e. is-short) (λ e. by-chunk (chunkUnder rules (be16 s q)) (walk-few f rules s (q + 32767)))
-  where
-    by-chunk : (c : Chunk) → OfWhole (Few (q + 32767)) (walkFuel f rules s (q + 32767)) → OfWhole (Few q) (step s q c (λ r. walkFuel f rules s r))
-    by-chunk Dead k = is-dead q
-    by-chunk Last k = pick-by (OfWhole (Few q)) (leb (be16 s q) (length s - q)) _ _ (λ e. few-one q (be16 s q) (continuation q (be16 s q)) refl) (λ e. is-short)
-    by-chunk Full k = pick-by (OfWhole (Few q)) (leb 32767 (length s - q)) _ _ (λ e. few-behind q (continuation q 32767) _ (omega arith) k) (λ e. is-short)
+continuations-few : (rules : Rules) (s : List ℕ) (q : ℕ) → OfWhole (Few q) (continuations rules s q)
+continuations-few rules s =
+    continuations-by rules s (λ q w. OfWhole (Few q) w) (λ q. is-short) (λ q l. is-dead q) (λ q l c h. few-one q (be16 s q) (continuation q (be16 s q)) refl)
+    (λ q w l k. few-behind q (continuation q 32767) w (omega arith) k)
 
 frame-few : (rules : Rules) (s : List ℕ) (p : ℕ) → OfWhole (Few p) (frameWalk rules s p)
-unfolding frameWalk continuations
 frame-few rules s p =
-    pick-by (OfWhole (Few p)) (ltb (length s - p) 6) _ _ (λ e. is-short)
-    (λ e. pick-by (OfWhole (Few p)) (eqb (be16 s p) 65535) _ _
-    (λ e₁. pick-by (OfWhole (Few p)) (leb 32767 (length s - p)) _ _
-    (λ e₂. few-behind p (first p 32767) _ (omega arith) (walk-few (suc ((length s - (p + 32767)) / 32767)) rules s (p + 32767))) (λ e₂. is-short))
-    (λ e₁. pick-by (OfWhole (Few p)) (leb (be16 s p) (length s - p)) _ _ (λ e₂. few-one p (be16 s p) (first p (be16 s p)) refl) (λ e₂. is-short)))
+    frame-by rules s (OfWhole (Few p)) p is-short (λ l h. few-one p (be16 s p) (first p (be16 s p)) refl)
+    (λ l. few-behind p (first p 32767) _ (omega arith) (continuations-few rules s (p + 32767)))
 
 -- ---- refusals and heads
 
