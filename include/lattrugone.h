@@ -55,7 +55,7 @@ enum lattrugone_answer {
     LATTRUGONE_DONE = 0,
     LATTRUGONE_NOT_WHOLE = 1,            /* frame not whole yet: lend the same run with more bytes */
     LATTRUGONE_BAD_MAGIC = 2,            /* magic not D0 [the byte] */
-    LATTRUGONE_BAD_TYPE = 3,             /* type not 1 to 4 [the low four bits] */
+    LATTRUGONE_BAD_TYPE = 3,             /* type not 1 to 5 [the low four bits] */
     LATTRUGONE_TOO_FEW_BYTES = 4,        /* too few bytes [expected, actual: counted from the place] */
     LATTRUGONE_INLINE_TOO_SHORT = 5,     /* inline DDM length below 4 [length, 4, code point] */
     LATTRUGONE_HEADER_TOO_SHORT = 6,     /* extended DDM header below 4 [header length] */
@@ -127,6 +127,7 @@ enum lattrugone_format {
     LATTRUGONE_REPLY = 2,
     LATTRUGONE_OBJECT = 3,
     LATTRUGONE_COMMUNICATION = 4,
+    LATTRUGONE_NO_REPLY = 5,             /* a request that wants no reply */
     LATTRUGONE_TYPE_BITS = 0x0F,
     LATTRUGONE_SAME_CORRELATION = 0x10,
     LATTRUGONE_CONTINUE_ON_ERROR = 0x20,
@@ -155,7 +156,7 @@ size_t lattrugone_decode_continuation_len(uint16_t raw);
 uint8_t lattrugone_decide_continuation(uint16_t raw);
 
 /* The type in the low four bits of a byte.
- * DONE: words[RESULT] the type, 1 to 4. BAD_TYPE at 0. */
+ * DONE: words[RESULT] the type, 1 to 5. BAD_TYPE at 0. */
 uint8_t lattrugone_type_from_byte(uint8_t b, uint64_t *words, size_t words_len);
 
 /* The three flags of a format byte, all other bits cleared. */
@@ -201,6 +202,11 @@ uint8_t lattrugone_write_dss(uint16_t correlation_id, size_t fill, uint8_t dss_t
 /* A request, same correlation clear. */
 uint8_t lattrugone_write_request(uint16_t correlation_id, size_t fill, uint8_t chained, const uint8_t *payload,
                                  size_t payload_len, uint8_t *room, size_t room_len, uint64_t *words, size_t words_len);
+
+/* A request that wants no reply, same correlation clear. */
+uint8_t lattrugone_write_request_no_reply(uint16_t correlation_id, size_t fill, uint8_t chained, const uint8_t *payload,
+                                          size_t payload_len, uint8_t *room, size_t room_len, uint64_t *words,
+                                          size_t words_len);
 
 /* An object, same correlation clear. */
 uint8_t lattrugone_write_object(uint16_t correlation_id, size_t fill, uint8_t chained, const uint8_t *payload,

@@ -89,7 +89,7 @@ static void print_objects(const uint8_t *payload, size_t len)
 
 static void take_frame(uint64_t first, const uint64_t *frame, const uint8_t *payload)
 {
-    static const char *const types[] = {"?", "request", "reply", "object", "communication"};
+    static const char *const types[] = {"?", "request", "reply", "object", "communication", "noreply"};
     unsigned format = (unsigned)frame[LATTRUGONE_FRAME_FORMAT];
 
     printf("at %zu %s %c%c%c corr %u seg %zu bytes %zu\n", (size_t)first, types[format & LATTRUGONE_TYPE_BITS],

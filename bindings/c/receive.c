@@ -35,7 +35,7 @@ static ssize_t receive(int socket, uint8_t *to, size_t most)
 
 static void take_frame(uint64_t first, const uint64_t *frame, const uint8_t *payload)
 {
-    static const char *const types[] = {"?", "request", "reply", "object", "communication"};
+    static const char *const types[] = {"?", "request", "reply", "object", "communication", "noreply"};
     unsigned format = (unsigned)frame[LATTRUGONE_FRAME_FORMAT];
     uint64_t sum = 0xCBF29CE484222325;
 

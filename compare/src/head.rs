@@ -4,7 +4,7 @@ pub mod record;
 use crate::answers::{answered, done, expected, of_error, refused, Answer, Words};
 use crate::lent::Lent;
 use crate::port::{self, Head};
-use crate::{Chance, Tally};
+use crate::{five, By, Chance, Tally};
 use db2_proto::dss::{DssFlags, DssHeader, DssType};
 use db2_proto::Result;
 
@@ -30,7 +30,18 @@ struct Buffers {
 
 // ---- parsing
 
-fn head_words(head: Result<DssHeader>) -> Words {
+/// What the Rust reads of a head, and who says so: where it refuses a type 5, it is the head of a request with that type.
+fn head_words(bytes: &[u8]) -> (By, Words) {
+    let given = DssHeader::parse(bytes);
+    if !five::refused(&given) {
+        return (By::Rust, words_of(given));
+    }
+    let mut words = words_of(five::parsed(bytes));
+    words[3] = five::NO_REPLY as u64;
+    (By::Five, words)
+}
+
+fn words_of(head: Result<DssHeader>) -> Words {
     match head {
         Ok(head) => done(&[
             head.length as u64,
@@ -46,8 +57,8 @@ fn parse(tally: &mut Tally, lent: &mut Buffers, bytes: &[u8], words: usize) {
     let run = lent.run.lend_copy(bytes);
     let port = answered(&mut lent.words, words, |words| port::head_parse(run, words));
     let port = port.with_run(&lent.run, bytes);
-    let rust = expected(head_words(DssHeader::parse(bytes)), words);
-    tally.answer("head_parse", bytes, port, rust);
+    let (by, due) = head_words(bytes);
+    tally.answer_by(by, "head_parse", bytes, port, expected(due, words));
 }
 
 /// Every raw length, every correlation, every magic with every format byte; runs shorter than a head, and longer ones.
@@ -60,7 +71,7 @@ fn parsed(tally: &mut Tally, lent: &mut Buffers) {
         parse(tally, lent, &[high, low, low, high, high, low], 8);
     }
     for magic in [0xD0, 0xD1] {
-        for format in [2, 5] {
+        for format in [2, 5, 6] {
             let bytes = [0xFF, 0xFF, magic, format, 3, 4, 5, 6, 7];
             for len in 0..=bytes.len() {
                 parse(tally, lent, &bytes[..len], 8);
@@ -80,19 +91,26 @@ fn head(length: u16, dss_type: u8, flags: u8, correlation_id: u16) -> Head {
     }
 }
 
-/// The Rust's head of these numbers; its refusal where the type's byte is none.
-fn head_of(head: Head) -> Result<DssHeader> {
-    Ok(DssHeader {
+/// The bytes of the Rust's head of these numbers; its refusal where the type's byte is none. Where it refuses a type 5, they are
+/// a request's with that type.
+fn head_of(head: Head) -> Result<[u8; 6]> {
+    let (dss_type, no_reply) = five::stand_in(head.dss_type);
+    let rust = DssHeader {
         length: head.length,
-        dss_type: DssType::from_byte(head.dss_type)?,
+        dss_type: DssType::from_byte(dss_type)?,
         flags: DssFlags::from_byte(head.flags),
         correlation_id: head.correlation_id,
-    })
+    };
+    let mut bytes = rust.serialize();
+    if no_reply {
+        five::made(&mut bytes);
+    }
+    Ok(bytes)
 }
 
 /// What writing comes to: the Rust's refusal of the type, then "no room" for rooms shorter than the Rust's bytes, then those.
 fn written(head: Head, room: usize, words: usize) -> Answer {
-    match head_of(head).map(|head| head.serialize()) {
+    match head_of(head) {
         Err(error) => expected(of_error(&error, 0), words),
         Ok(bytes) if room < bytes.len() => expected(refused(9, 0, &[bytes.len() as u64, 0]), words),
         Ok(bytes) => expected(done(&[bytes.len() as u64]), words).laying(&bytes),
@@ -117,24 +135,26 @@ fn serialize(tally: &mut Tally, lent: &mut Buffers, head: Head, room: usize, wor
         second,
         room as u8,
     ];
-    tally.answer("head_serialize", &input, port, rust);
+    let by = five::by(&DssType::from_byte(head.dss_type));
+    tally.answer_by(by, "head_serialize", &input, port, rust);
 }
 
 /// Every type with every set of flags, at chosen lengths and correlations, into rooms of 0 to 8 bytes; every length; every
 /// correlation; every byte as a type with every byte as flags. What was written reads as the Rust reads it.
 fn serialized(tally: &mut Tally, lent: &mut Buffers) {
-    for which in 0..4 * 8 * 8 * 5 {
-        let dss_type = which as u8 % 4 + 1;
-        let flags = (which / 4 % 8) as u8 * 0x10;
-        let length = [0, 1, 5, 6, 0x7FFF, 0x8000, 0xFFFE, 0xFFFF][which / 32 % 8];
-        let correlation_id = [0, 1, 255, 256, 65535][which / 256];
+    for which in 0..5 * 8 * 8 * 5 {
+        let dss_type = (which % 5) as u8 + 1;
+        let flags = (which / 5 % 8) as u8 * 0x10;
+        let length = [0, 1, 5, 6, 0x7FFF, 0x8000, 0xFFFE, 0xFFFF][which / 40 % 8];
+        let correlation_id = [0, 1, 255, 256, 65535][which / 320];
         let head = head(length, dss_type, flags, correlation_id);
         for room in 0..=8 {
             serialize(tally, lent, head, room, 8);
         }
         let bytes = lent.room.part(0, 6).to_vec();
         let of_port = DssHeader::parse(&bytes);
-        tally.same("head_serialize, read", &bytes, of_port, read_back(head));
+        let of_rust = head_of(head).and_then(|bytes| DssHeader::parse(&bytes));
+        tally.same("head_serialize, read", &bytes, of_port, of_rust);
         parse(tally, lent, &bytes, 8);
     }
     for number in 0..=u16::MAX {
@@ -143,11 +163,6 @@ fn serialized(tally: &mut Tally, lent: &mut Buffers) {
         serialize(tally, lent, head(10, 4, 0x20, number), 7, 8);
         serialize(tally, lent, head(10, high, low, 7), 8, 8);
     }
-}
-
-/// What the Rust reads where it wrote a head itself.
-fn read_back(head: Head) -> Result<DssHeader> {
-    DssHeader::parse(&head_of(head)?.serialize())
 }
 
 // ---- words, and random inputs

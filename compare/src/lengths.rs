@@ -2,7 +2,7 @@
 //! same names.
 use crate::answers::{answered, done, expected, of_error, Words};
 use crate::lent::Lent;
-use crate::port;
+use crate::{five, port};
 use crate::{By, Tally};
 use db2_proto::dss::{DssFlags, DssHeader, DssReader, DssType};
 
@@ -63,8 +63,8 @@ fn format_bytes(tally: &mut Tally) {
     for b in 0..=255 {
         for words in 0..=12 {
             let port = answered(&mut lent, words, |words| port::type_from_byte(b, words));
-            let rust = expected(type_words(b), words);
-            tally.answer("type_from_byte", &[b], port, rust);
+            let (by, due) = type_words(b);
+            tally.answer_by(by, "type_from_byte", &[b], port, expected(due, words));
         }
         let port = port::flags_from_byte(b);
         let rust = DssFlags::from_byte(b).to_byte();
@@ -72,9 +72,13 @@ fn format_bytes(tally: &mut Tally) {
     }
 }
 
-pub fn type_words(b: u8) -> Words {
-    match DssType::from_byte(b) {
+/// The type of a byte, and who says so.
+pub fn type_words(b: u8) -> (By, Words) {
+    let given = DssType::from_byte(b);
+    let words = match &given {
         Ok(dss_type) => done(&[dss_type.to_byte() as u64]),
-        Err(error) => of_error(&error, 0),
-    }
+        _ if five::refused(&given) => done(&[five::NO_REPLY as u64]),
+        Err(error) => of_error(error, 0),
+    };
+    (five::by(&given), words)
 }

@@ -6,6 +6,7 @@ mod answers;
 mod change;
 mod ddm;
 mod dead;
+mod five;
 mod head;
 mod lengths;
 mod lent;
@@ -39,6 +40,8 @@ pub enum By {
     Change,
     /// Documents 01 and 02 alone, as this program reads them.
     Document,
+    /// The documents, where the Rust answers `InvalidDssType(5)` (five.rs).
+    Five,
 }
 
 /// How many answers of the port were held to what, and how many differences were found.
@@ -48,6 +51,7 @@ pub struct Tally {
     model: u64,
     change: u64,
     document: u64,
+    five: u64,
     different: u64,
     /// What was met of continuation lengths of 0 and 1.
     pub dead: dead::Met,
@@ -91,6 +95,7 @@ impl Tally {
             By::Model => &mut self.model,
             By::Change => &mut self.change,
             By::Document => &mut self.document,
+            By::Five => &mut self.five,
         } += 1;
         self.equal(what, input, ("port", port), ("due", due));
     }
@@ -134,6 +139,10 @@ impl Tally {
         println!(
             "compare: besides, {} held to the model of changing one parameter",
             self.change
+        );
+        println!(
+            "compare: besides, {} held to document 02, W-210, where the Rust answers InvalidDssType(5) or has no such call",
+            self.five
         );
         println!("{} compared, {} different", rust + model, self.different);
         std::process::exit(if self.different == 0 { 0 } else { 1 });
@@ -227,5 +236,6 @@ fn main() {
     change::compare(&mut tally, &mut chance, cases);
     traffic::compare(&mut tally, Path::new(CAPTURES));
     tally.dead.all();
+    assert!(tally.five > 0, "no type 5 was met");
     tally.end();
 }

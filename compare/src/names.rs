@@ -2,10 +2,11 @@
 //! over db2-proto and over lattrugone, so that a name that is missing or has another type doesn't compile; and what both come to
 //! is compared. At the end every public name of the two modules' text has been compared, but for the string forms.
 //!
-//! Where the Rust stops or loses bits, the port is held to document 01.
+//! Where the Rust stops or loses bits, the port is held to document 01, and where it refuses a type 5, to document 02.
 mod added;
 mod builder;
 mod captures;
+mod five;
 mod handed;
 mod heads;
 mod objects;
@@ -14,6 +15,7 @@ mod seen;
 mod source;
 mod writer;
 
+use crate::five::NO_REPLY;
 use crate::{By, Chance, Tally, CAPTURES};
 use seen::{Case, Seen, Why};
 use std::collections::HashMap;
@@ -113,6 +115,23 @@ impl Names<'_> {
         self.same(names, input, port, rust);
     }
 
+    /// The same where the Rust may refuse a type 5, and what is due then.
+    fn or_five<A>(
+        &mut self,
+        names: &[&'static str],
+        input: &[u8],
+        port: Seen<A>,
+        rust: Seen<A>,
+        due: impl FnOnce() -> Seen<A>,
+    ) where
+        A: PartialEq + Debug,
+    {
+        match is_five(&rust) {
+            true => self.tally.held(By::Five, names[0], input, port, due()),
+            false => self.result(names, input, port, rust),
+        }
+    }
+
     /// Holds what the port came to, to document 01 where the Rust stops or loses bits.
     fn document<A: PartialEq + Debug>(
         &mut self,
@@ -123,6 +142,11 @@ impl Names<'_> {
     ) {
         self.tally.held(By::Document, name, input, port, due);
     }
+}
+
+/// Whether the Rust refuses a type 5.
+fn is_five<A>(given: &Seen<A>) -> bool {
+    matches!(given, Err(why) if why.case == Case::Type(NO_REPLY))
 }
 
 fn case_name(why: &Why) -> &'static str {

@@ -49,6 +49,7 @@ lending! {
     write_dss_full(id: u16, fill: usize, dss_type: u8, flags: u8);
     write_dss(id: u16, fill: usize, dss_type: u8, chained: u8);
     write_request(id: u16, fill: usize, chained: u8);
+    write_request_no_reply(id: u16, fill: usize, chained: u8);
     write_object(id: u16, fill: usize, chained: u8);
     write_object_same_corr(id: u16, fill: usize, chained: u8);
     write_request_next_same_corr(id: u16, fill: usize, chained: u8);

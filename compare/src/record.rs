@@ -33,7 +33,7 @@ const LIST: usize = 655_360;
 /// The calls' numbers, each with how many there are.
 const CALLS: [(u64, u64); 12] = [
     (0, 8),
-    (16, 6),
+    (16, 7),
     (32, 4),
     (48, 5),
     (64, 2),

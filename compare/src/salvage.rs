@@ -9,7 +9,7 @@ use crate::answers::{done, refused, Words};
 use crate::lent::Lent;
 use crate::rows::{frame_words, Call, Listed, Rows};
 use crate::{port, By, Chance, Tally};
-use model::{Entry, Frame, Salvage};
+use model::{Entry, Frame, Head, Salvage};
 
 /// The longest run, and the most entries of one.
 const MOST: usize = 700_000;
@@ -92,12 +92,16 @@ fn listed(salvage: &Salvage) -> Listed {
 
 /// A frame's record, with its payload's place.
 fn of_frame(frame: &Frame, place: usize) -> Words {
-    let head = &frame.head;
+    let head = head_words(&frame.head);
+    frame_words(place, head, frame.payload.len(), frame.segments as u64)
+}
+
+/// Length, the format byte, correlation.
+pub fn head_words(head: &Head) -> [u64; 3] {
     let flag = |set: bool, bit: u64| if set { bit } else { 0 };
     let format = head.kind as u64
         + flag(head.chained, 0x40)
         + flag(head.continue_on_error, 0x20)
         + flag(head.same_correlation, 0x10);
-    let head = [head.length as u64, format, head.correlation as u64];
-    frame_words(place, head, frame.payload.len(), frame.segments as u64)
+    [head.length as u64, format, head.correlation as u64]
 }

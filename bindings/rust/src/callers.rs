@@ -108,6 +108,31 @@
 //! }
 //! ```
 //!
+//! A match on all of db2-proto's types, and what it must add:
+//!
+//! ```compile_fail,E0004
+//! use lattrugone::dss::DssType;
+//!
+//! fn answers(dss_type: DssType) -> bool {
+//!     match dss_type {
+//!         DssType::Request => true,
+//!         DssType::Reply | DssType::Object | DssType::Communication => false,
+//!     }
+//! }
+//! ```
+//!
+//! ```
+//! use lattrugone::dss::DssType;
+//!
+//! fn answers(dss_type: DssType) -> bool {
+//!     match dss_type {
+//!         DssType::Request => true,
+//!         DssType::Reply | DssType::Object | DssType::Communication => false,
+//!         DssType::NoReply => false,
+//!     }
+//! }
+//! ```
+//!
 //! An error type of the caller's own, made from db2-proto's:
 //!
 //! ```compile_fail,E0277

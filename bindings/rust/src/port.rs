@@ -75,6 +75,8 @@ port! {
     fn write_dss = lattrugone_write_dss(correlation_id: u16, fill: usize, dss_type: u8, chained: u8, payload: &[u8], room: &mut [u8], words: &mut [u64]) -> u8;
     /// A request.
     fn write_request = lattrugone_write_request(correlation_id: u16, fill: usize, chained: u8, payload: &[u8], room: &mut [u8], words: &mut [u64]) -> u8;
+    /// A request that wants no reply.
+    fn write_request_no_reply = lattrugone_write_request_no_reply(correlation_id: u16, fill: usize, chained: u8, payload: &[u8], room: &mut [u8], words: &mut [u64]) -> u8;
     /// An object.
     fn write_object = lattrugone_write_object(correlation_id: u16, fill: usize, chained: u8, payload: &[u8], room: &mut [u8], words: &mut [u64]) -> u8;
     /// An object, same correlation set.

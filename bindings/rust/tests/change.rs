@@ -217,7 +217,7 @@ fn frames_that_are_refused() {
     let of = |digits: &str| refused(&hex(digits));
     assert_eq!(of("0006 D1 01 0001"), InvalidMagic(0xD1));
     assert_eq!(of("0007 D1 01 0001"), Incomplete);
-    assert_eq!(of("0006 D0 25 0001"), InvalidDssType(5));
+    assert_eq!(of("0006 D0 26 0001"), InvalidDssType(6));
     assert_eq!(of("0005 D0 01 0001"), LengthTooShort(5));
     // the object
     let short = |expected, actual| BufferTooShort { expected, actual };
@@ -258,7 +258,7 @@ fn frames_that_are_never_whole() {
         assert_eq!(refused(&frame[..place + 1]), Incomplete);
         assert_eq!(refused(&frame), DeadContinuation { place });
         // before a head that is refused, and before what is left over
-        (frame[2], frame[3]) = (0xD1, 0x05);
+        (frame[2], frame[3]) = (0xD1, 0x06);
         frame.extend(request(b"0412"));
         assert_eq!(refused(&frame), DeadContinuation { place });
     }

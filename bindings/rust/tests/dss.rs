@@ -4,11 +4,12 @@ use common::{full_segments, hex, pattern};
 use lattrugone::dss::*;
 use lattrugone::ProtoError::{BufferTooShort, InvalidDssType, InvalidMagic, LengthTooShort};
 
-const TYPES: [DssType; 4] = [
+const TYPES: [DssType; 5] = [
     DssType::Request,
     DssType::Reply,
     DssType::Object,
     DssType::Communication,
+    DssType::NoReply,
 ];
 
 fn flags(chained: bool, continue_on_error: bool, same_correlation: bool) -> DssFlags {
@@ -95,6 +96,10 @@ fn each_way_to_write() {
     assert_eq!(
         written(|w| w.write_object_same_corr(b"A", false)),
         hex("0007 D0 13 0002 41")
+    );
+    assert_eq!(
+        written(|w| w.write_request_no_reply(b"A", true)),
+        hex("0007 D0 45 0002 41")
     );
     let next = written(|w| w.write_request_next_same_corr(b"A", true));
     assert_eq!(next, hex("0007 D0 51 0002 41"));
@@ -259,7 +264,7 @@ fn continuations_that_are_never_whole() {
         let place = segments * 32767;
         let mut run = full_segments(segments, raw);
         // magic and type aren't looked at before that
-        for (magic, format) in [(0xD0, 0x03), (0xD1, 0x03), (0xD0, 0x05)] {
+        for (magic, format) in [(0xD0, 0x03), (0xD1, 0x03), (0xD0, 0x06)] {
             (run[2], run[3]) = (magic, format);
             let mut reader = DssReader::new(run[..place].to_vec());
             reads_none(&mut reader, None);

@@ -48,7 +48,7 @@ fn bytes_beside_the_result_stay() {
 #[test]
 fn fewer_than_eight_words_stay() {
     let mut lent = [KEPT; WORDS - 1];
-    assert_eq!(port::type_from_byte(5, &mut lent), 3);
+    assert_eq!(port::type_from_byte(6, &mut lent), 3);
     assert_eq!(
         port::next_frame(&hex("0006D0020007"), 0, &mut [], &mut lent),
         0
@@ -84,9 +84,9 @@ fn marks_beyond_their_buffer() {
 #[test]
 fn a_mark_beyond_its_room_comes_before_no_type() {
     let mut room = [0x11; 3];
-    for (fill, refusal) in [(4, [10, 4, 4, 3]), (3, [3, 0, 5, 0])] {
-        let full = words(|w| port::write_dss_full(1, fill, 5, 0, b"", &mut room, w));
-        let wrote = words(|w| port::write_dss(1, fill, 5, 0, b"", &mut room, w));
+    for (fill, refusal) in [(4, [10, 4, 4, 3]), (3, [3, 0, 6, 0])] {
+        let full = words(|w| port::write_dss_full(1, fill, 6, 0, b"", &mut room, w));
+        let wrote = words(|w| port::write_dss(1, fill, 6, 0, b"", &mut room, w));
         assert_eq!((&full[..4], &wrote[..4]), (&refusal[..], &refusal[..]));
     }
     assert_eq!(room, [0x11; 3]);
@@ -193,7 +193,7 @@ fn lengths_and_markers() {
 
 #[test]
 fn frame_ends() {
-    let run = hex("0006D0020007 0007D0050007FF 0007");
+    let run = hex("0006D0020007 0007D0060007FF 0007");
     assert_eq!(
         words(|w| port::frame_end(&run, 6, w)),
         [0, 0, 13, 0, 0, 0, 0, 0]

@@ -46,8 +46,7 @@ fn spoil(numbers: &mut Numbers, bytes: &mut [u8]) {
     if numbers.yes() {
         bytes[2] = bytes[2].wrapping_add(1 + numbers.below(255) as u8);
     } else {
-        bytes[3] =
-            (bytes[3] & 0xF0) | [0, 5, 6, 7, 8, 9, 10, 11, 12, 13, 14, 15][numbers.below(12)];
+        bytes[3] = (bytes[3] & 0xF0) | [0, 6, 7, 8, 9, 10, 11, 12, 13, 14, 15][numbers.below(11)];
     }
     let payload = bytes.len().min(32767);
     for b in &mut bytes[4..payload] {
@@ -56,15 +55,16 @@ fn spoil(numbers: &mut Numbers, bytes: &mut [u8]) {
 }
 
 fn run_of_frames(numbers: &mut Numbers) {
-    const TYPES: [DssType; 4] = [
+    const TYPES: [DssType; 5] = [
         DssType::Request,
         DssType::Reply,
         DssType::Object,
         DssType::Communication,
+        DssType::NoReply,
     ];
     let (mut run, mut expected) = (Vec::new(), Vec::new());
     for _ in 0..numbers.below(12) {
-        let (dss_type, chained, same) = (TYPES[numbers.below(4)], numbers.yes(), numbers.yes());
+        let (dss_type, chained, same) = (TYPES[numbers.below(5)], numbers.yes(), numbers.yes());
         let payload = if same {
             standing(numbers)
         } else {
@@ -170,7 +170,7 @@ fn what_the_reader_swallows() {
 
 #[test]
 fn why_an_entry_is_refused() {
-    let run = hex("0006D1020007 0007D0050007FF 0006D0020008 0005D0020009 0006D0020001");
+    let run = hex("0006D1020007 0007D0060007FF 0006D0020008 0005D0020009 0006D0020001");
     let all = salvage(&run);
     let errors: Vec<_> = all
         .entries
@@ -182,7 +182,7 @@ fn why_an_entry_is_refused() {
         .collect();
     let expected = [
         (0, InvalidMagic(0xD1)),
-        (6, InvalidDssType(5)),
+        (6, InvalidDssType(6)),
         (19, LengthTooShort(5)),
     ];
     assert_eq!(errors, expected);

@@ -45,10 +45,37 @@ fn p1_to_p7_one_head() {
     assert_eq!(line(""), Ok(None));
     reads("0006D0020007", "Reply --- 7 seg 1 length 6 [] to 6");
     refuses("0006D1020007", InvalidMagic(209), 0);
-    refuses("0006D0050007", InvalidDssType(5), 0);
+    refuses("0006D0060007", InvalidDssType(6), 0);
     refuses("0005D0020007", LengthTooShort(5), 0);
     refuses("0005D1020007", InvalidMagic(0xD1), 0);
-    assert_eq!(line("0007D0050007"), Ok(None));
+    assert_eq!(line("0007D0060007"), Ok(None));
+}
+
+/// W-210: a request that wants no reply, alone; with an object that it absorbs, as P10, or that stands by itself, as P11; with one of
+/// its own type, as P9; and what isn't absorbed.
+#[test]
+fn a_request_that_wants_no_reply() {
+    let (first, alone) = ("0006D0050001", "NoReply --- 1 seg 1 length 6 [] to 6");
+    reads(first, alone);
+    assert_eq!(line("0007D0050001"), Ok(None));
+    let behind = |second: &str| format!("{first} {second}");
+    let object = "NoReply --- 1 seg 2 length 6 [00042414] to 16";
+    reads(&behind("000AD0130001 00042414"), object);
+    reads(&behind("000BD0130001 00052414C1"), alone);
+    let own = "NoReply c-- 1 seg 2 length 6 [BB] to 13";
+    reads(&behind("0007D0550001BB"), own);
+    for other in ["0006D0110001", "0006D0120001", "0006D0140001"] {
+        reads(&behind(other), alone);
+    }
+    for (format, name) in [
+        ("01", "Request"),
+        ("02", "Reply"),
+        ("03", "Object"),
+        ("04", "Communication"),
+    ] {
+        let run = format!("0006D0{format}0001 0006D0150001");
+        reads(&run, &format!("{name} --- 1 seg 1 length 6 [] to 6"));
+    }
 }
 
 #[test]

@@ -1,7 +1,7 @@
 //! Frames with one object: as the Rust writes them, and cut into segments in each way that its reader takes.
 use crate::ddm::lengths::headed;
+use crate::writer::call::Call;
 use crate::Chance;
-use db2_proto::dss::{DssFlags, DssType, DssWriter};
 
 /// What a frame has behind its length: magic, format byte, correlation.
 pub type Head = [u8; 4];
@@ -9,25 +9,21 @@ pub type Head = [u8; 4];
 /// Mostly a request's, with any flags.
 pub fn head(chance: &mut Chance) -> Head {
     let kind = match chance.below(4) {
-        0 => 1 + chance.below(4) as u8,
+        0 => 1 + chance.below(5) as u8,
         _ => 1,
     };
     let format = chance.byte() & 0xF0 | kind;
     [0xD0, format, chance.byte(), chance.byte()]
 }
 
-/// The Rust's frame of a payload. The bits 0x20 and 0x80, which it never sets, are set by hand.
+/// The Rust's frame of a payload; of a type 5 it is a request with that type. The bits 0x20 and 0x80, which it never sets, are set
+/// by hand.
 pub fn written(head: Head, payload: &[u8]) -> Vec<u8> {
     let [_, format, a, b] = head;
-    let (kind, flags) = (DssType::from_byte(format), DssFlags::from_byte(format));
-    let mut writer = DssWriter::new(u16::from_be_bytes([a, b]));
-    writer.write_dss_full(
-        kind.expect("a type"),
-        flags.chained,
-        flags.same_correlation,
-        payload,
-    );
-    let mut frame = writer.finish();
+    let (dss_type, flags) = (format, format);
+    let call = Call::Full { dss_type, flags };
+    let frame = call.rust_frame(u16::from_be_bytes([a, b]), payload);
+    let (mut frame, _) = frame.expect("a type");
     frame[3] |= format & 0xA0;
     frame
 }

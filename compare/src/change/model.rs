@@ -182,7 +182,8 @@ fn read(frame: &[u8]) -> Result<Read, Words> {
         return Err(refused(2, 0, &[frame[2] as u64]));
     }
     let low = frame[3] & 15;
-    if low == 0 || low > 4 {
+    // W-210: "The type reading accepts 1 to 5".
+    if low == 0 || low > 5 {
         return Err(refused(3, 0, &[low as u64]));
     }
     if number(frame, 0) < 6 {

@@ -119,7 +119,7 @@ pub fn behind(tally: &mut Tally, held: &mut Held, chance: &mut Chance) {
 
 /// A frame whole, cut by a byte, with bytes behind it, with its magic or its type spoilt.
 fn around(tally: &mut Tally, held: &mut Held, frame: &[u8]) {
-    let mut spoilt = [(2, 0xD1), (3, 0x45)].map(|(place, byte)| {
+    let mut spoilt = [(2, 0xD1), (3, 0x46)].map(|(place, byte)| {
         let mut frame = frame.to_vec();
         frame[place] = byte;
         frame

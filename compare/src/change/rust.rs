@@ -4,7 +4,7 @@ use super::case::{Call, Case};
 use crate::answers::{refused, Bytes, Words};
 use crate::ddm::params;
 use crate::ddm::rust::raw_length;
-use crate::Tally;
+use crate::{five, Tally};
 use db2_proto::ddm::DdmObject;
 use db2_proto::dss::DssReader;
 
@@ -21,15 +21,24 @@ fn list(object: &DdmObject) -> List {
 type Seen = Option<([u16; 3], List)>;
 
 fn seen(call: Call, run: &[u8]) -> Seen {
-    let data = run.to_vec();
+    let mut data = run.to_vec();
     if call == Call::Param {
         let code_point = 0x2412;
         return Some(([0; 3], list(&DdmObject { code_point, data })));
     }
+    let no_reply = five::refused(&DssReader::new(data.clone()).next_frame());
+    if no_reply {
+        five::as_request(&mut data);
+    }
     let frame = DssReader::new(data).next_frame().ok()??;
     let (object, consumed) = DdmObject::parse(&frame.payload).ok()?;
     let head = frame.header;
-    let format = head.dss_type.to_byte() | head.flags.to_byte();
+    let kind = if no_reply {
+        five::NO_REPLY
+    } else {
+        head.dss_type.to_byte()
+    };
+    let format = kind | head.flags.to_byte();
     let numbers = [format as u16, head.correlation_id, object.code_point];
     (consumed == frame.payload.len()).then(|| (numbers, list(&object)))
 }

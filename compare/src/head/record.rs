@@ -39,21 +39,21 @@ fn lengths(list: &mut List) {
 
 fn format_bytes(list: &mut List) {
     for b in 0..=255 {
-        let answer = expected(type_words(b), 8);
+        let answer = expected(type_words(b).1, 8);
         list.answer(Asked::new(4, &[b as u64], &[]), 0, &answer);
         let flags = DssFlags::from_byte(b).to_byte();
         list.number(Asked::new(5, &[b as u64], &[]), flags as u64);
     }
     for words in FEW_WORDS {
-        for b in [2, 5] {
-            let answer = expected(type_words(b), words);
+        for b in [2, 5, 6] {
+            let answer = expected(type_words(b).1, words);
             list.answer(Asked::new(4, &[b as u64], &[]).words(words), 0, &answer);
         }
     }
 }
 
 fn parse(list: &mut List, bytes: &[u8], words: usize) {
-    let answer = expected(head_words(DssHeader::parse(bytes)), words);
+    let answer = expected(head_words(bytes).1, words);
     list.answer(Asked::new(6, &[], bytes).words(words), 0, &answer);
 }
 
@@ -66,7 +66,7 @@ fn parsed(list: &mut List, chance: &mut Chance) {
     }
     for magic in [0, 0xCF, 0xD0, 0xD1, 0xFF] {
         for format in [
-            0, 1, 2, 3, 4, 5, 15, 0x12, 0x22, 0x42, 0x72, 0x82, 0xF4, 0xF5,
+            0, 1, 2, 3, 4, 5, 6, 15, 0x12, 0x22, 0x42, 0x72, 0x82, 0xF4, 0xF5, 0xF6,
         ] {
             parse(list, &[0, 6, magic, format, 1, 2], 8);
         }
@@ -99,7 +99,7 @@ fn serialize(list: &mut List, numbers: [u16; 4], room: usize, words: usize) {
 
 /// Types and what is none, with sets of flags, lengths and correlations; rooms of 0 to 8 bytes; any number of words.
 fn serialized(list: &mut List) {
-    for dss_type in [0, 1, 2, 3, 4, 5, 0x11, 0x15, 0xFF] {
+    for dss_type in [0, 1, 2, 3, 4, 5, 6, 0x11, 0x15, 0x16, 0xFF] {
         for flags in [0, 0x10, 0x20, 0x40, 0x70, 0x8F, 0xFF] {
             let room = 5 + (dss_type + flags / 16) as usize % 3;
             serialize(list, [10, dss_type, flags, 0x1234], room, 8);

@@ -1,5 +1,5 @@
-//! What lattrugone adds to db2-proto's names: its `salvage` held to the model, and `next_frame_counted`, `dead_at` and `position`
-//! to the walk and to what remains.
+//! What lattrugone adds to db2-proto's names: its `salvage` held to the model, `next_frame_counted`, `dead_at` and `position` to the
+//! walk and to what remains, and frames of type 5 to the Rust's requests.
 use super::seen::Head;
 use super::Names;
 use crate::answers::Bytes;
@@ -7,8 +7,9 @@ use crate::reader::long::each_dead;
 use crate::reader::walk::{walk, Walked};
 use crate::reader::{runs, PAPER};
 use crate::salvage::model::{self, Entry};
-use crate::{shown, By, Chance};
-use lattrugone::dss::{self, DssReader};
+use crate::writer::around_edges;
+use crate::{five, shown, By, Chance};
+use lattrugone::dss::{self, DssReader, DssType, DssWriter};
 
 /// Once in so many random runs there are long frames.
 const LONG: usize = 200;
@@ -23,6 +24,7 @@ pub fn compare(names: &mut Names, chance: &mut Chance, cases: u64) {
         }
     }
     each_dead(chance, |run, _| hold(names, run));
+    no_reply(names, chance);
     for _ in 0..cases {
         let mut run = runs::random(chance, LONG);
         for _ in 0..chance.below(4) {
@@ -30,6 +32,41 @@ pub fn compare(names: &mut Names, chance: &mut Chance, cases: u64) {
         }
         hold(names, &run.bytes);
     }
+}
+
+/// Each of the writer's calls that can lay down a type 5, from one writer, and how the type is shown and told.
+fn no_reply(names: &mut Names, chance: &mut Chance) {
+    for len in (0..=40).chain(around_edges()) {
+        let payload = chance.bytes(len);
+        let (id, chained, same) = (len as u16, len % 2 == 0, len % 3 == 0);
+        let mut port = DssWriter::new(id);
+        let mut rust = db2_proto::dss::DssWriter::new(id);
+        port.write_request_no_reply(&payload, chained);
+        rust.write_request(&payload, chained);
+        let mut due = rust.finish();
+        five::made(&mut due);
+        for same in [false, same] {
+            rust.write_dss_full(db2_proto::dss::DssType::Request, chained, same, &payload);
+            let mut frame = rust.finish();
+            five::made(&mut frame);
+            due.extend(frame);
+        }
+        port.write_dss(DssType::NoReply, chained, &payload);
+        port.write_dss_full(DssType::NoReply, chained, same, &payload);
+        let (port, due) = (Bytes(port.finish()), Bytes(due));
+        let name = "DssWriter::write_request_no_reply";
+        names.tally.held(By::Five, name, &[], port, due);
+    }
+    let dss_type = DssType::NoReply;
+    let port = (
+        dss_type.to_byte(),
+        format!("{dss_type:?}"),
+        dss_type.clone() == dss_type,
+    );
+    let due = (five::NO_REPLY, "NoReply".to_string(), true);
+    names
+        .tally
+        .held(By::Five, "DssType::NoReply", &[], port, due);
 }
 
 fn hold(names: &mut Names, run: &[u8]) {

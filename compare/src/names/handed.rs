@@ -2,11 +2,12 @@
 //! crate db2-handed, which compare/oracle makes. Callers that are written for db2-proto and that README says compile unchanged
 //! are compiled over both, and come to the same.
 use super::objects::loses_bits;
-use super::Names;
+use super::{five, Names};
+use crate::five::NO_REPLY;
 use crate::reader::long::each_dead;
 use crate::reader::{runs, PAPER};
 use crate::stops::unless_stopped;
-use crate::{shown, Chance};
+use crate::{shown, By, Chance};
 
 macro_rules! callers {
     ($name:ident = $proto:ident) => {
@@ -53,10 +54,38 @@ fn payloads(run: &[u8]) -> Vec<Vec<u8>> {
     all
 }
 
+/// What a caller is told of frames of which one has type 5, where nothing is refused: the Rust's objects of the model's frames.
+fn told_by_model(names: &mut Names, run: &[u8]) {
+    let (Ok(frames), _) = five::all(run, 0) else {
+        return;
+    };
+    let mut objects = Vec::new();
+    for ((_, kind, _, _), payload) in frames {
+        if loses_bits(&payload.0).is_some() {
+            return;
+        }
+        // A caller leaves communications out.
+        if kind != 4 {
+            match unless_stopped(|| db2_proto::ddm::parse_ddm_objects(&payload.0)) {
+                Some(Ok(more)) => objects.extend(more),
+                _ => return,
+            }
+        }
+    }
+    let (port, due) = (of_handed::told(run), format!("{objects:?}"));
+    names
+        .tally
+        .held(By::Five, "a caller", shown(run), port, due);
+}
+
 /// Keeps out where the Rust stops or loses bits.
 fn hold(names: &mut Names, run: &[u8]) {
     if payloads(run).iter().any(|p| loses_bits(p).is_some()) {
         return;
+    }
+    let refuses_five = || of_rust::told(run) == format!("type {NO_REPLY}");
+    if unless_stopped(refuses_five) == Some(true) {
+        return told_by_model(names, run);
     }
     let told = (of_handed::told(run), unless_stopped(|| of_rust::told(run)));
     let found = (

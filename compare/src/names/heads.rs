@@ -1,7 +1,7 @@
 //! Constants, types, flags, heads.
 use super::seen::Head;
 use super::{port, rust, Names};
-use crate::Chance;
+use crate::{five, Chance};
 
 const TYPES: &[&str] = &[
     "DssType::to_byte",
@@ -38,7 +38,8 @@ pub fn compare(names: &mut Names, chance: &mut Chance, cases: u64) {
     names.same(&["DssFlags::none"], &[], none.0, none.1);
     for b in 0..=255 {
         let given = (port::heads::type_of(b), rust::heads::type_of(b));
-        names.result(&["DssType::from_byte"], &[b], given.0, given.1);
+        let no_reply = || Ok(five::NO_REPLY);
+        names.or_five(&["DssType::from_byte"], &[b], given.0, given.1, no_reply);
         let given = (port::heads::flags_of(b), rust::heads::flags_of(b));
         names.same(&["DssFlags::from_byte"], &[b], given.0, given.1);
         let set = [b & 1 != 0, b & 2 != 0, b & 4 != 0];
@@ -75,7 +76,12 @@ fn numbers(names: &mut Names) {
 
 fn parse(names: &mut Names, bytes: &[u8]) {
     let given = (port::heads::parse(bytes), rust::heads::parse(bytes));
-    names.result(PARSE, bytes, given.0, given.1);
+    names.or_five(PARSE, bytes, given.0, given.1, || {
+        let mut request = bytes.to_vec();
+        five::as_request(&mut request);
+        let (length, _, set, id) = rust::heads::parse(&request)?;
+        Ok((length, five::NO_REPLY, set, id))
+    });
 }
 
 fn write(names: &mut Names, head: Head) {

@@ -1,7 +1,7 @@
 //! The reader: runs read frame by frame, all at once, and as they arrive.
 use super::seen::{Case, Frame, Seen, Why};
-use super::{port, rust, Names};
-use crate::reader::long::{each_continued, each_dead, written, AROUND, EDGES, TYPES};
+use super::{five, is_five, port, rust, Names};
+use crate::reader::long::{each_continued, each_dead, written, AROUND, EDGES};
 use crate::reader::short::{every_frame, framed};
 use crate::reader::{runs, PAPER};
 use crate::stops::unless_stopped;
@@ -34,7 +34,7 @@ pub fn compare(names: &mut Names, chance: &mut Chance, cases: u64) {
         }
     }
     for (turn, second) in every_frame(1).enumerate() {
-        let first = framed(1 + turn as u8 % 4, 1, &[0x80, 0x04, 0x24, 0x1B][..turn % 5]);
+        let first = framed(1 + turn as u8 % 5, 1, &[0x80, 0x04, 0x24, 0x1B][..turn % 5]);
         hold(names, &second);
         hold(names, &[&first[..], &second].concat());
         let cut = turn % (first.len() + second.len());
@@ -53,7 +53,7 @@ fn long(names: &mut Names, chance: &mut Chance) {
         .into_iter()
         .flat_map(|edge| edge - AROUND..=edge + AROUND)
     {
-        let run = written(TYPES[len % 4], len % 2 == 0, &chance.bytes(len));
+        let run = written(1 + len as u8 % 5, len % 2 == 0, &chance.bytes(len));
         hold(names, &run);
         let run = [&run[..], &framed(0x13, 9, &[0x7F, 0xFE, 0xC1])].concat();
         hold(names, &run);
@@ -86,11 +86,12 @@ fn random(names: &mut Names, chance: &mut Chance) {
     }
 }
 
-/// Both readers of a run, and the run so far.
+/// Both readers of a run, and the run so far. Behind a type 5 the Rust's is a new one, of the bytes that aren't read yet.
 struct Both<'a> {
     port: port::reader::Reader,
     rust: rust::reader::Reader,
     run: &'a [u8],
+    anew: bool,
 }
 
 impl<'a> Both<'a> {
@@ -99,6 +100,7 @@ impl<'a> Both<'a> {
             port: port::reader::Reader::new(run),
             rust: rust::reader::Reader::new(run),
             run,
+            anew: false,
         }
     }
 
@@ -107,7 +109,7 @@ impl<'a> Both<'a> {
         let (a, b) = (&self.port, &self.rust);
         let port = (a.remaining(), a.is_whole());
         names.same(LOOK, shown(self.run), port, (b.remaining(), b.is_whole()));
-        if self.run.len() <= SHORT {
+        if self.run.len() <= SHORT && !self.anew {
             names.same(&["DssReader"], self.run, a.shown(), b.shown());
         }
     }
@@ -129,13 +131,26 @@ impl<'a> Both<'a> {
         })
     }
 
+    /// The Rust's reader goes on at a place, behind or at what the model read or refused.
+    fn goes_on_at(&mut self, place: usize) {
+        self.rust = rust::reader::Reader::new(&self.run[place..]);
+        self.anew = true;
+    }
+
     /// The next frame; whether there was one.
     fn next(&mut self, names: &mut Names) -> bool {
-        names.tally.dead.note(NEXT[0], self.run, self.at());
+        let at = self.at();
+        names.tally.dead.note(NEXT[0], self.run, at);
         let (port, reader) = (self.port.next(), &mut self.rust);
         let rust: Option<Seen<Option<Frame>>> = unless_stopped(|| reader.next());
-        let goes_on = matches!(rust, Some(Ok(Some(_))));
+        let mut goes_on = matches!(rust, Some(Ok(Some(_))));
         match rust {
+            Some(rust) if is_five(&rust) => {
+                let (due, place) = five::next(self.run, at);
+                goes_on = due.is_ok();
+                names.or_five(NEXT, shown(self.run), port, rust, || due);
+                self.goes_on_at(place);
+            }
             Some(rust) => names.result(NEXT, shown(self.run), port, rust),
             None => names.document(NEXT[0], shown(self.run), port, self.too_short()),
         }
@@ -144,12 +159,18 @@ impl<'a> Both<'a> {
     }
 
     fn all(&mut self, names: &mut Names) {
+        let at = self.at();
         let (port, reader) = (self.port.all(), &mut self.rust);
         let rust: Option<Seen<Vec<Frame>>> = unless_stopped(|| reader.all());
         if let Some(Ok(_)) = rust {
             names.tally.dead.note(ALL[0], self.run, self.at());
         }
         match rust {
+            Some(rust) if is_five(&rust) => {
+                let (due, place) = five::all(self.run, at);
+                names.or_five(ALL, shown(self.run), port, rust, || due);
+                self.goes_on_at(place);
+            }
             Some(rust) => names.result(ALL, shown(self.run), port, rust),
             None => names.document(ALL[0], shown(self.run), port, self.too_short()),
         }
@@ -174,8 +195,10 @@ pub fn hold(names: &mut Names, run: &[u8]) {
     let mut both = Both::new(run);
     both.look(names);
     if both.next(names) && run.len() <= SHORT {
-        let port = port::reader::first_shown(run);
-        names.same(&["DssFrame"], run, port, rust::reader::first_shown(run));
+        if let Some(rust) = rust::reader::first_shown(run) {
+            let port = port::reader::first_shown(run);
+            names.same(&["DssFrame"], run, port, Some(rust));
+        }
     }
     while both.next(names) {}
     both.next(names);

@@ -14,7 +14,7 @@ pub fn compare(names: &mut Names, chance: &mut Chance, cases: u64) {
         names.same(NEXT, &id.to_be_bytes(), next.0, next.1);
     }
     for len in (0..=40).chain(around_edges()) {
-        for call in every_call() {
+        for call in both_have() {
             one(names, call, chance.next() as u16, &bytes[..len]);
         }
     }
@@ -26,6 +26,13 @@ pub fn compare(names: &mut Names, chance: &mut Chance, cases: u64) {
 }
 
 const NEXT: &[&str] = &["DssWriter::next_correlation_id"];
+
+/// The calls that both have, with types that both have.
+fn both_have() -> Vec<Call> {
+    let mut calls = every_call();
+    calls.retain(|call| !call.no_reply());
+    calls
+}
 
 fn written(call: Call) -> &'static str {
     match call.named().0 {
@@ -71,7 +78,7 @@ fn many(names: &mut Names, chance: &mut Chance, bytes: &[u8]) {
         port::writer::Writer::new(first),
         rust::writer::Writer::new(first),
     );
-    let calls = every_call();
+    let calls = both_have();
     for _ in 0..2 + chance.below(14) {
         let mut called = "DssWriter::data";
         match chance.below(10) {

@@ -1,6 +1,6 @@
 //! One run, read by both: each call at each position that the Rust comes to, then all frames at once.
 use super::all::{listed, to_end, ByFrame};
-use super::rust::{end, next, position, Read};
+use super::rust::{end, next, position, Came, Read};
 use crate::answers::{answered, expected, refused, Answer};
 use crate::lent::Lent;
 use crate::rows::{Call, Listed, Rows};
@@ -54,19 +54,14 @@ impl Held {
         case.words = words;
         case.first(tally);
         let mut reader = DssReader::new(run.to_vec());
-        let mut segments = Vec::new();
+        let mut by_frame = ByFrame::default();
         loop {
             let at = position(&reader, run);
             case.look(tally, &reader, at);
             let read = next(tally, &mut reader, run, 0);
             case.next(tally, at, &read);
-            match read {
-                Read::Frame { segments: n, .. } => segments.push(n),
-                Read::Refused(last) => {
-                    let by_frame = ByFrame { segments, last };
-                    case.all(tally, 0, &listed(run, 0, &by_frame));
-                    return;
-                }
+            if !by_frame.takes(at, read) {
+                return case.all(tally, 0, listed(run, 0, &by_frame));
             }
         }
     }
@@ -78,15 +73,15 @@ impl Held {
         let Some(rest) = run.get(at..) else {
             case.look_beyond(tally, at);
             let answer = beyond(at, run.len());
-            case.next(tally, at, &Read::Refused(answer));
-            return case.all(tally, at, &Listed::Refused(answer));
+            case.next(tally, at, &Read::refused(answer));
+            return case.all(tally, at, (By::Rust, Listed::Refused(answer)));
         };
         let mut reader = DssReader::new(rest.to_vec());
         case.look(tally, &reader, at);
         let read = next(tally, &mut reader, rest, at);
         case.next(tally, at, &read);
         let by_frame = to_end(tally, &mut reader, rest, at, read);
-        case.all(tally, at, &listed(run, at, &by_frame));
+        case.all(tally, at, listed(run, at, &by_frame));
     }
 
     /// A run that arrives in two parts: what the Rust's `extend` adds is a longer run at the same position. What the first part
@@ -100,9 +95,9 @@ impl Held {
             let mut case = self.lend(part);
             case.look(tally, &reader, at);
             let read = next(tally, &mut reader, part, 0);
-            let read = dead.take().map_or(read, Read::Refused);
+            let read = dead.take().map_or(read, Read::refused);
             case.next(tally, at, &read);
-            if let Read::Refused(answer) = read {
+            if let Came::Refused(answer) = read.came {
                 let not_whole = answer[0] == 1 || answer[0] == 16;
                 if !not_whole || part.len() == run.len() {
                     return;
@@ -207,12 +202,12 @@ impl Case<'_> {
         let port = port
             .with_room(lent, 0, rust.bytes_laid())
             .with_run(run, self.run);
-        tally.answer("next_frame", &self.input(at, room), port, rust);
+        tally.answer_by(read.by, "next_frame", &self.input(at, room), port, rust);
     }
 
     /// All frames from a position on.
-    fn all(&mut self, tally: &mut Tally, at: usize, listed: &Listed) {
-        if let Listed::All { words, .. } = listed {
+    fn all(&mut self, tally: &mut Tally, at: usize, (by, listed): (By, Listed)) {
+        if let Listed::All { words, .. } = &listed {
             tally
                 .dead
                 .note("read_all_frames", self.run, words[1] as usize);
@@ -220,11 +215,11 @@ impl Case<'_> {
         let Held { run, rows, .. } = &mut *self.held;
         let call = Call {
             name: "read_all_frames",
-            by: By::Rust,
+            by,
             at,
             words: self.words,
             make: port::read_all_frames,
         };
-        rows.hold(tally, run, self.run, call, listed);
+        rows.hold(tally, run, self.run, call, &listed);
     }
 }

@@ -1,19 +1,12 @@
 //! Long runs: frames around each edge, continuations of each kind, long segments that are absorbed.
 use super::case::Held;
 use super::short::{frame, framed};
-use crate::{Chance, Tally};
+use crate::{five, Chance, Tally};
 use db2_proto::dss::{DssType, DssWriter};
 
 /// The longest payloads of one to three segments; three below each are tried, and three above.
 pub const EDGES: [usize; 3] = [32_761, 65_526, 98_291];
 pub const AROUND: usize = 3;
-
-pub const TYPES: [DssType; 4] = [
-    DssType::Request,
-    DssType::Reply,
-    DssType::Object,
-    DssType::Communication,
-];
 
 /// The raw lengths of continuations that are tried: below a continuation's own two bytes, just above, and around each edge.
 pub const RAWS: [u16; 14] = [
@@ -23,11 +16,17 @@ pub const RAWS: [u16; 14] = [
 /// The raw lengths of long segments.
 const LONG: [u16; 5] = [0x7FFE, 0x7FFF, 0x8000, 0x8004, 0xFFFE];
 
-/// The Rust's own frame of a payload.
-pub fn written(dss_type: DssType, same_correlation: bool, payload: &[u8]) -> Vec<u8> {
+/// The Rust's own frame of a payload, by its type's number; of a type 5 it is a request with that type.
+pub fn written(kind: u8, same_correlation: bool, payload: &[u8]) -> Vec<u8> {
+    let (dss_type, no_reply) = five::stand_in(kind);
     let mut writer = DssWriter::new(0x0102);
+    let dss_type = DssType::from_byte(dss_type).expect("a type");
     writer.write_dss_full(dss_type, true, same_correlation, payload);
-    writer.finish()
+    let mut frame = writer.finish();
+    if no_reply {
+        five::made(&mut frame);
+    }
+    frame
 }
 
 /// A frame of raw length 0xFFFF with continuations of these raw lengths, each with as many bytes as it takes; and where each
@@ -55,14 +54,14 @@ pub fn edges(tally: &mut Tally, held: &mut Held, chance: &mut Chance) {
         .flat_map(|edge| edge - AROUND..=edge + AROUND)
     {
         let payload = chance.bytes(len);
-        for (dss_type, next) in TYPES.into_iter().zip([0, 0x13, 0x03, 0x14]) {
-            let mut run = written(dss_type, len % 2 == 0, &payload);
+        for (kind, next) in (1..).zip([0, 0x13, 0x03, 0x14, 0x15]) {
+            let mut run = written(kind, len % 2 == 0, &payload);
             if next != 0 {
                 run.extend(framed(next, 9, &[0x7F, 0xFE, 0xC1]));
             }
             held.hold(tally, &run);
-            let mut run = framed(dss_type.to_byte(), 1, &[0xAA]);
-            run.extend(written(dss_type, true, &payload));
+            let mut run = framed(kind, 1, &[0xAA]);
+            run.extend(written(kind, true, &payload));
             held.hold(tally, &run);
         }
     }
@@ -81,7 +80,7 @@ pub fn each_continued(chance: &mut Chance, behind: &[u8], mut hold: impl FnMut(&
                     hold(&run[..cut.min(run.len())]);
                 }
             }
-            run[if raw % 2 == 0 { 2 } else { 3 }] = 0xD5;
+            run[if raw % 2 == 0 { 2 } else { 3 }] = 0xD6;
             hold(&run);
         }
     }
@@ -101,7 +100,7 @@ pub fn each_dead(chance: &mut Chance, mut hold: impl FnMut(&[u8], usize)) {
             for front in &fronts {
                 let start = front.len();
                 let length = start + places[full.len()];
-                for (magic, format) in [(0xD0, 0x43), (0xD1, 0x43), (0xD0, 0x45)] {
+                for (magic, format) in [(0xD0, 0x43), (0xD1, 0x43), (0xD0, 0x46)] {
                     let mut run = [&front[..], &frame, &behind].concat();
                     run[start + 2] = magic;
                     run[start + 3] = format;

@@ -3,7 +3,7 @@ pub mod runs;
 
 use super::all::{listed, to_end};
 use super::case::beyond;
-use super::rust::{end, next, position, Read};
+use super::rust::{end, next, position, Came, Read};
 use super::PAPER;
 use crate::answers::expected;
 use crate::record::{structs, Asked, List, FEW_WORDS};
@@ -63,7 +63,7 @@ fn whole(list: &mut List, tally: &mut Tally, run: &[u8], turn: usize) {
         let read = next(tally, &mut reader, run, 0);
         read_in(list, run, at, &read, 8, turn + frames);
         frames += 1;
-        if matches!(read, Read::Refused(_)) {
+        if matches!(read.came, Came::Refused(_)) {
             break;
         }
     }
@@ -76,7 +76,7 @@ fn all_at(list: &mut List, tally: &mut Tally, run: &[u8], from: usize, words: us
     let mut reader = DssReader::new(rest.to_vec());
     let first = next(tally, &mut reader, rest, from);
     let by_frame = to_end(tally, &mut reader, rest, from, first);
-    let frames = listed(run, from, &by_frame);
+    let (_, frames) = listed(run, from, &by_frame);
     let (bytes, records) = frames.needs();
     for (room, row) in rooms(bytes, records, turn) {
         let asked = Asked::new(64, &[from as u64], run);

@@ -2,7 +2,6 @@
 use super::long::{continued, written, AROUND, EDGES, RAWS};
 use super::short::frame;
 use crate::Chance;
-use db2_proto::dss::DssType;
 
 /// A run, and where its heads and its continuations start.
 pub struct Run {
@@ -21,7 +20,7 @@ pub fn random(chance: &mut Chance, times: usize) -> Run {
         0 => 1 + chance.below(3),
         _ => 0,
     };
-    let mut kind = 1 + chance.below(4) as u8;
+    let mut kind = 1 + chance.below(5) as u8;
     for _ in 0..frames {
         if longs > 0 && chance.below(2) == 0 {
             longs -= 1;
@@ -62,7 +61,7 @@ impl Run {
     fn short(&mut self, chance: &mut Chance, before: u8) -> u8 {
         let kind = match chance.below(16) {
             0 => chance.byte() & 15,
-            1..=3 => 1 + chance.below(4) as u8,
+            1..=3 => 1 + chance.below(5) as u8,
             4..=8 => 3,
             _ => before,
         };
@@ -86,13 +85,13 @@ impl Run {
     /// A long frame behind the others: as the Rust writes it around an edge, with continuations of random raw lengths, or of
     /// one segment.
     fn long(&mut self, chance: &mut Chance) {
-        let dss_type = [DssType::Reply, DssType::Object][chance.below(2)];
-        let format = dss_type.to_byte() + random_flags(chance);
+        let kind = [2, 3, 5][chance.below(3)];
+        let format = kind + random_flags(chance);
         match chance.below(3) {
             0 => {
                 let len = EDGES[chance.below(3)] - AROUND + chance.below(2 * AROUND + 1);
                 let payload = chance.bytes(len);
-                self.push(&written(dss_type, chance.below(2) == 0, &payload));
+                self.push(&written(kind, chance.below(2) == 0, &payload));
             }
             1 => {
                 let full = [0x7FFF, 0xFFFF][chance.below(2)];

@@ -2,12 +2,18 @@
 use super::walk::{walk, Walked};
 use crate::answers::{done, expected, of_error, refused, Answer, Words};
 use crate::rows::frame_words;
+use crate::salvage::{self, model};
 use crate::stops::unless_stopped;
-use crate::{shown, Tally};
+use crate::{five, shown, By, Tally};
 use db2_proto::dss::{DssFrame, DssReader};
 
-/// What a frame's reading comes to.
-pub enum Read {
+/// What a frame's reading comes to, and who says so.
+pub struct Read {
+    pub came: Came,
+    pub by: By,
+}
+
+pub enum Came {
     Frame {
         /// Length, the format byte, correlation.
         head: [u64; 3],
@@ -33,12 +39,12 @@ pub fn head_of(frame: &DssFrame) -> [u64; 3] {
 impl Read {
     /// What the call comes to from a position on in a room of so many bytes: 9 comes last.
     pub fn answer(&self, at: usize, room: usize, words: usize) -> Answer {
-        match self {
-            Read::Refused(answer) => expected(*answer, words),
-            Read::Frame { payload, .. } if room < payload.len() => {
+        match &self.came {
+            Came::Refused(answer) => expected(*answer, words),
+            Came::Frame { payload, .. } if room < payload.len() => {
                 expected(refused(9, at as u64, &[payload.len() as u64, 0]), words)
             }
-            Read::Frame {
+            Came::Frame {
                 head,
                 payload,
                 end,
@@ -52,9 +58,17 @@ impl Read {
 
     /// The payload's length, 0 without one.
     pub fn payload_len(&self) -> usize {
-        match self {
-            Read::Frame { payload, .. } => payload.len(),
-            Read::Refused(_) => 0,
+        match &self.came {
+            Came::Frame { payload, .. } => payload.len(),
+            Came::Refused(_) => 0,
+        }
+    }
+
+    /// A refusal, by the Rust or the documents.
+    pub fn refused(answer: Words) -> Read {
+        Read {
+            came: Came::Refused(answer),
+            by: By::Rust,
         }
     }
 }
@@ -93,11 +107,15 @@ pub fn end(tally: &mut Tally, run: &[u8], at: usize) -> Words {
 
 /// The next frame of a reader of these bytes, which are a run's from a place on: the Rust's, with the segments of the walk. Both
 /// must say that there is a frame, that it isn't whole, that a head is refused, or that the Rust stops and where. A frame that
-/// isn't whole leaves the Rust's reader where it was, also one that never will be.
+/// isn't whole leaves the Rust's reader where it was, also one that never will be. Where the Rust refuses a type 5, it is the
+/// model's, and the reader is one of the bytes that the model leaves.
 pub fn next(tally: &mut Tally, reader: &mut DssReader, bytes: &[u8], from: usize) -> Read {
     let at = position(reader, bytes);
     let walked = walk(&bytes[at..]);
     let given = unless_stopped(|| reader.next_frame());
+    if given.as_ref().is_some_and(five::refused) {
+        return by_model(tally, reader, bytes, from, at, walked);
+    }
     let stands = position(reader, bytes);
     let place = (from + stands) as u64;
     let rust = match &given {
@@ -109,29 +127,70 @@ pub fn next(tally: &mut Tally, reader: &mut DssReader, bytes: &[u8], from: usize
     let what = "the walk and next_frame";
     if let Some(refusal) = not_whole(&walked, from + at) {
         tally.own(what, shown(bytes), ("not whole", at), (rust, stands));
-        return Read::Refused(refusal);
+        return Read::refused(refusal);
     }
-    let (paper, read) = match (walked, given) {
+    let (paper, came) = match (walked, given) {
         (Walked::BadHead, Some(Err(error))) => {
-            ("a head refused", Read::Refused(of_error(&error, place)))
+            ("a head refused", Came::Refused(of_error(&error, place)))
         }
         (Walked::TooShort { length, behind }, _) if at + behind == stands => {
-            ("stopped", Read::Refused(refused(7, place, &[length])))
+            ("stopped", Came::Refused(refused(7, place, &[length])))
         }
         (Walked::Frame { segments }, Some(Ok(Some(frame)))) => {
             let head = head_of(&frame);
             let payload = frame.payload;
             let end = from + stands;
-            let read = Read::Frame {
+            let came = Came::Frame {
                 head,
                 payload,
                 end,
                 segments,
             };
-            ("a frame", read)
+            ("a frame", came)
         }
-        (_, _) => ("another", Read::Refused(refused(0, place, &[]))),
+        (_, _) => ("another", Came::Refused(refused(0, place, &[]))),
     };
     tally.own(what, shown(bytes), paper, rust);
-    read
+    let by = By::Rust;
+    Read { came, by }
+}
+
+/// The frame at a place of these bytes by the model, which must agree with the walk.
+fn by_model(
+    tally: &mut Tally,
+    reader: &mut DssReader,
+    bytes: &[u8],
+    from: usize,
+    at: usize,
+    walked: Walked,
+) -> Read {
+    let given = model::next_frame(bytes, at).expect("the Rust says that it is whole");
+    let (walks, stands, came) = match given {
+        Ok((frame, end)) => {
+            let segments = frame.segments as u64;
+            let came = Came::Frame {
+                head: salvage::head_words(&frame.head),
+                payload: frame.payload,
+                end: from + end,
+                segments,
+            };
+            (Walked::Frame { segments }, end, came)
+        }
+        Err(refusal) => {
+            let (place, value) = (refusal.place, refusal.value as u64);
+            let walks = match refusal.number {
+                7 => Walked::TooShort {
+                    length: value,
+                    behind: place - at,
+                },
+                _ => Walked::BadHead,
+            };
+            let answer = refused(refusal.number as u64, (from + place) as u64, &[value]);
+            (walks, place, Came::Refused(answer))
+        }
+    };
+    tally.own("the walk and the model", shown(bytes), walked, walks);
+    *reader = DssReader::new(bytes[stands..].to_vec());
+    let by = By::Five;
+    Read { came, by }
 }

@@ -37,10 +37,10 @@ pub fn framed(format: u8, correlation: u16, payload: &[u8]) -> Vec<u8> {
     frame(payload.len() as u16 + 6, format, correlation, payload)
 }
 
-/// Every length from 0 to 12, type from 0 to 5, set of flags and payload, in twelve bytes.
+/// Every length from 0 to 12, type from 0 to 6, set of flags and payload, in twelve bytes.
 pub fn every_frame(correlation: u16) -> impl Iterator<Item = Vec<u8>> {
     (0..=LONGEST as u16).flat_map(move |length| {
-        (0..=5).flat_map(move |kind| {
+        (0..=6).flat_map(move |kind| {
             FLAGS.into_iter().flat_map(move |flags| {
                 PAYLOADS.map(|payload| frame(length, flags + kind, correlation, &payload))
             })
@@ -65,7 +65,7 @@ pub fn one(tally: &mut Tally, held: &mut Held) {
 /// one.
 pub fn two(tally: &mut Tally, held: &mut Held) {
     let mut turn = 0;
-    for kind in 1..=4 {
+    for kind in 1..=5 {
         for payload in [&[][..], &[0xAA], &PAYLOADS[1][..3], &PAYLOADS[1][..4]] {
             let first = framed(kind + FLAGS[turn % FLAGS.len()], 1, payload);
             for second in every_frame(1 + turn as u16 % 2) {
@@ -141,14 +141,14 @@ pub fn three(tally: &mut Tally, held: &mut Held) {
 
 /// Three types, the last also none.
 fn every_type() -> impl Iterator<Item = (u8, u8, u8)> {
-    (0..4 * 4 * 5).map(|n| (1 + n % 4, 1 + n / 4 % 4, 1 + n / 16))
+    (0..5 * 5 * 6).map(|n| (1 + n % 5, 1 + n / 5 % 5, 1 + n / 25))
 }
 
 /// A run cut at every byte, and with each of a few bytes in the place of every byte.
 pub fn spoilt(tally: &mut Tally, held: &mut Held, run: &[u8]) {
     for place in 0..run.len() {
         held.hold(tally, &run[..place]);
-        for byte in [0, 1, 5, 6, 0x13, 0x53, 0x7F, 0xD0, 0xFF] {
+        for byte in [0, 1, 5, 6, 0x13, 0x15, 0x53, 0x7F, 0xD0, 0xFF] {
             let mut spoilt = run.to_vec();
             spoilt[place] = byte;
             held.hold(tally, &spoilt);

@@ -1,6 +1,6 @@
 //! The reading where the Rust shows nothing: how many segments a frame has, which length below six stopped the Rust and where
-//! it stands, and of a frame that isn't whole whether further bytes can mend it. It is written from document 01 alone, and the
-//! last from document 02, W-203.
+//! it stands, and of a frame that isn't whole whether further bytes can mend it. It is written from document 01 alone, the last
+//! from document 02, W-203, and the type 5 from W-210.
 
 /// What the bytes from a position on come to.
 #[derive(Debug, PartialEq)]
@@ -25,7 +25,7 @@ fn number(bytes: &[u8], at: usize) -> usize {
 /// The type and whether same correlation is set, of a head that isn't refused.
 fn head(bytes: &[u8]) -> Option<(u8, bool)> {
     let (kind, good) = (bytes[3] & 15, bytes[2] == 0xD0);
-    (good && (1..=4).contains(&kind)).then_some((kind, bytes[3] & 0x10 != 0))
+    (good && (1..=5).contains(&kind)).then_some((kind, bytes[3] & 0x10 != 0))
 }
 
 /// "The frame's end": the segments that the frame at the first byte has of its own, or why it isn't whole. "16 says a
@@ -83,7 +83,7 @@ pub fn walk(bytes: &[u8]) -> Walked {
             return Walked::BadHead;
         };
         let length = number(rest, 0);
-        let follows = kind == first || kind == 3 && first <= 2;
+        let follows = kind == first || kind == 3 && [1, 2, 5].contains(&first);
         if length == 0xFFFF || !same_correlation || !follows || length > rest.len() {
             break;
         }

@@ -5,8 +5,8 @@ use super::Held;
 use crate::answers::{done, refused, Words};
 use crate::port::{self, Loan};
 use crate::rows::{frame_words, Call, Listed};
+use crate::writer::call;
 use crate::{By, Chance, Tally};
-use db2_proto::dss::{DssType, DssWriter};
 
 /// The longest payloads of one to four segments, whose last one is full, and those around them.
 const LONG: [usize; 11] = [
@@ -49,7 +49,7 @@ fn sent(chance: &mut Chance, mut len: usize) -> Sent {
         payload[..most].copy_from_slice(&start[..most]);
     }
     Sent {
-        kind: 1 + chance.below(4) as u8,
+        kind: 1 + chance.below(5) as u8,
         chained: chance.below(2) == 0,
         same_correlation,
         correlation: chance.next() as u16,
@@ -80,11 +80,14 @@ impl Sent {
         room
     }
 
+    /// The Rust's frame; of a type 5 it is a request with that type.
     fn written_by_rust(&self) -> Vec<u8> {
-        let dss_type = DssType::from_byte(self.kind).expect("a type");
-        let mut writer = DssWriter::new(self.correlation);
-        writer.write_dss_full(dss_type, self.chained, self.same_correlation, &self.payload);
-        writer.finish()
+        let (dss_type, flags) = (self.kind, self.flags());
+        let call = call::Call::Full { dss_type, flags };
+        let (frame, _) = call
+            .rust_frame(self.correlation, &self.payload)
+            .expect("a type");
+        frame
     }
 
     /// The record that is due for it, with its payload's place in the room.
@@ -112,7 +115,8 @@ impl Sent {
             let field = segment * 32_767;
             bytes[field..field + 2].copy_from_slice(&kept[field..field + 2]);
         }
-        let low = [0, 5, 6, 7, 8, 9, 10, 11, 12, 13, 14, 15][chance.below(12)];
+        // "demand 3's spoilt type is outside 1 to 5"
+        let low = [0, 6, 7, 8, 9, 10, 11, 12, 13, 14, 15][chance.below(11)];
         if chance.below(2) == 0 {
             bytes[3] = bytes[3] & 0xF0 | low;
             bytes[2] = 0xD0;

@@ -1,5 +1,5 @@
 //! The salvage reading as document 01 has it, and document 02 where it changes that: their sentences in document 01's order, each
-//! above what does it. It is written from that text alone, shares nothing with the port or with the rest of the comparison, and is meant to be read beside the document.
+//! above what does it. Reading one frame by the reader's rules is here too, for what the Rust refuses and the port reads. It is written from that text alone, shares nothing with the port or with the rest of the comparison, and is meant to be read beside the document.
 
 /// What a salvage reading hands out: entries in order, and the tail's place.
 pub struct Salvage {
@@ -47,6 +47,14 @@ pub struct Head {
 const REQUEST: u8 = 1;
 const REPLY: u8 = 2;
 const OBJECT: u8 = 3;
+const NO_REPLY: u8 = 5;
+
+/// The reader's rules, or salvage's.
+#[derive(Clone, Copy, PartialEq)]
+enum Rules {
+    Reader,
+    Salvage,
+}
 
 /// Two bytes as a number, big-endian.
 fn number(run: &[u8], place: usize) -> usize {
@@ -62,11 +70,11 @@ fn parse(run: &[u8], place: usize) -> Result<Head, Refusal> {
     if magic != 0xD0 {
         return Err(refusal(2, place, magic as usize));
     }
-    // "Format byte: low four bits the type (1 request, 2 reply, 3 object, 4 communication)". 3: "type not 1 to 4", "the low four
-    // bits".
+    // "Format byte: low four bits the type (1 request, 2 reply, 3 object, 4 communication)". Document 02, W-210: "the no-reply
+    // request DSS, type 5", "The type reading accepts 1 to 5". 3: any other, "the low four bits".
     let format = run[place + 3];
     let kind = format & 0x0F;
-    if kind < 1 || kind > 4 {
+    if kind < 1 || kind > 5 {
         return Err(refusal(3, place, kind as usize));
     }
     // "Raw 0xFFFF reads as length 32,767, every other raw length as itself, also 0x8000 to 0xFFFE."
@@ -92,7 +100,7 @@ struct Own {
 }
 
 /// "The frame's end." Nothing where it isn't whole.
-fn own(run: &[u8], place: usize) -> Option<Own> {
+fn own(run: &[u8], place: usize, rules: Rules) -> Option<Own> {
     let left = run.len() - place;
     // "Fewer than six bytes: 1."
     if left < 6 {
@@ -126,6 +134,7 @@ fn own(run: &[u8], place: usize) -> Option<Own> {
         let (takes, last) = match raw {
             0 | 1 => return None,
             0xFFFF => (32_767, false),
+            0x7FFF if rules == Rules::Reader => (32_767, false),
             _ => (raw, true),
         };
         if left < takes {
@@ -150,8 +159,15 @@ fn own_head(run: &[u8], place: usize) -> Result<Head, Refusal> {
     Ok(head)
 }
 
-/// The frame of a head and its own segments, with what it absorbs; and where that ends.
-fn read(run: &[u8], place: usize, mut head: Head, own: Own) -> (Frame, usize) {
+/// The frame of a head and its own segments, with what it absorbs; and where that ends. Or, by the reader's rules, what a head
+/// that is looked at is refused for.
+fn read(
+    run: &[u8],
+    place: usize,
+    mut head: Head,
+    own: Own,
+    rules: Rules,
+) -> Result<(Frame, usize), Refusal> {
     let mut payload = Vec::new();
     for (from, to) in &own.parts {
         payload.extend_from_slice(&run[*from..*to]);
@@ -169,17 +185,20 @@ fn read(run: &[u8], place: usize, mut head: Head, own: Own) -> (Frame, usize) {
             break;
         }
         // "Parse the head there." Salvage: "A head refused while looking for segments to absorb closes the frame instead."
-        let Ok(next) = parse(run, at) else {
-            break;
+        let next = match parse(run, at) {
+            Ok(next) => next,
+            Err(refusal) if rules == Rules::Reader => return Err(refusal),
+            Err(_) => break,
         };
         // "Raw 0xFFFF, or same correlation clear: finished."
         let length = number(run, at);
         if length == 0xFFFF || !next.same_correlation {
             break;
         }
-        // "Finished unless the type equals the first frame's, or is object after a first reply or request."
+        // "Finished unless the type equals the first frame's, or is object after a first reply or request." W-210: "an object may
+        // follow a first type 5 as it follows a request".
         let equals = next.kind == head.kind;
-        let object_after = next.kind == OBJECT && (head.kind == REPLY || head.kind == REQUEST);
+        let object_after = next.kind == OBJECT && [REPLY, REQUEST, NO_REPLY].contains(&head.kind);
         if !equals && !object_after {
             break;
         }
@@ -187,8 +206,11 @@ fn read(run: &[u8], place: usize, mut head: Head, own: Own) -> (Frame, usize) {
         if length > left {
             break;
         }
-        // "Length 0 to 5: refusal 7", which closes the frame, as above.
+        // "Length 0 to 5: refusal 7", which in salvage closes the frame, as above.
         if length <= 5 {
+            if rules == Rules::Reader {
+                return Err(refusal(7, at, length));
+            }
             break;
         }
         // "Length above 10, bytes 3 and 4 of its payload above 0x0100 as a number, and bytes 1 and 2 at most length - 2:
@@ -215,7 +237,15 @@ fn read(run: &[u8], place: usize, mut head: Head, own: Own) -> (Frame, usize) {
         payload,
         segments,
     };
-    (frame, at)
+    Ok((frame, at))
+}
+
+/// "`next_frame`, order: 10, 1, then head 2, 3, 7", at a place of the run: a frame and its end, or a refusal; nothing where the
+/// frame isn't whole.
+pub fn next_frame(run: &[u8], place: usize) -> Option<Result<(Frame, usize), Refusal>> {
+    let own = own(run, place, Rules::Reader)?;
+    let head = own_head(run, place);
+    Some(head.and_then(|head| read(run, place, head, own, Rules::Reader)))
 }
 
 // ---- "Salvage reading"
@@ -227,12 +257,13 @@ pub fn salvage(run: &[u8]) -> Salvage {
     loop {
         // "Not whole ends the walk with no entry. The tail's place, where the walk ended, is given". Document 02, W-203, has two
         // answers for not whole and leaves that as it is: "`read_all_frames` and salvage end at either".
-        let Some(own) = own(run, place) else {
+        let Some(own) = own(run, place, Rules::Salvage) else {
             break;
         };
-        match own_head(run, place) {
-            Ok(head) => {
-                let (frame, end) = read(run, place, head, own);
+        let own_end = own.end;
+        let head = own_head(run, place);
+        match head.and_then(|head| read(run, place, head, own, Rules::Salvage)) {
+            Ok((frame, end)) => {
                 entries.push(Entry::Frame(frame));
                 place = end;
             }
@@ -243,7 +274,7 @@ pub fn salvage(run: &[u8]) -> Salvage {
                 if number(run, place) < 6 {
                     break;
                 }
-                place = own.end;
+                place = own_end;
             }
         }
     }

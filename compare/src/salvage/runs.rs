@@ -1,6 +1,6 @@
 //! Runs to salvage: short ones one and all, long ones around each edge, and random ones, each damaged and cut.
 use super::{Held, MOST};
-use crate::reader::long::{each_continued, each_dead, written, TYPES};
+use crate::reader::long::{each_continued, each_dead, written};
 use crate::reader::short::{every_frame, frame, framed};
 use crate::reader::{runs, PAPER};
 use crate::{Chance, Tally};
@@ -18,7 +18,7 @@ const TWO: &[u8] = b"\x00\x0A\xD0\x02\x00\x01\x80\x04\x24\x1B\x00\x09\xD0\x53\x0
 fn spoilt(tally: &mut Tally, held: &mut Held, run: &[u8]) {
     for place in 0..run.len() {
         held.hold(tally, &run[..place]);
-        for byte in [0, 1, 5, 6, 7, 0x02, 0x05, 0x13, 0x53, 0x7F, 0xD0, 0xFF] {
+        for byte in [0, 1, 5, 6, 7, 0x02, 0x13, 0x15, 0x53, 0x7F, 0xD0, 0xFF] {
             let mut spoilt = run.to_vec();
             spoilt[place] = byte;
             held.hold(tally, &spoilt);
@@ -70,7 +70,7 @@ pub fn tails(tally: &mut Tally, held: &mut Held) {
 /// in one that is looked at, every type and set of flags, payloads that the rules look at.
 pub fn three(tally: &mut Tally, held: &mut Held) {
     let mut turn = 0;
-    for kind in 1..=4 {
+    for kind in 1..=5 {
         for payload in [&[][..], &[0xAA], &[0x80, 0x04, 0x24], &TWO[6..10]] {
             let first = framed(kind, 1, payload);
             for mut second in every_frame(1) {
@@ -105,9 +105,9 @@ pub fn edges(tally: &mut Tally, held: &mut Held, chance: &mut Chance) {
         32_760, 32_761, 32_762, 65_525, 65_526, 65_527, 98_291, 98_292,
     ] {
         let payload = chance.bytes(len);
-        for (dss_type, same) in TYPES.into_iter().zip([true, false, true, false]) {
-            let long = written(dss_type, same, &payload);
-            for (place, byte) in [(2, 0xD0), (2, 0xD1), (3, 0x55), (3, 0x10)] {
+        for (kind, same) in (1..).zip([true, false, true, false, true]) {
+            let long = written(kind, same, &payload);
+            for (place, byte) in [(2, 0xD0), (2, 0xD1), (3, 0x56), (3, 0x10)] {
                 let mut run = [TWO, &long, GOOD, TWO].concat();
                 if (place, byte) != (2, 0xD0) {
                     run[TWO.len() + place] = byte;
@@ -130,7 +130,7 @@ pub fn continuations(tally: &mut Tally, held: &mut Held, chance: &mut Chance) {
     each_dead(chance, |run, _| held.hold(tally, run));
     // The same lengths as a frame's own, with so many bytes.
     for length in [0x7FFE, 0x7FFF, 0x8000, 0x8004, 0xFFFE] {
-        for format in [0x03, 0x13, 0x05] {
+        for format in [0x03, 0x13, 0x05, 0x06] {
             let long = frame(length, format, 1, &chance.bytes(length as usize - 6));
             let run = [TWO, &long, &TWO[10..], GOOD].concat();
             held.hold(tally, &run);
@@ -145,7 +145,7 @@ pub fn many(tally: &mut Tally, held: &mut Held) {
     for count in [100, 255, 256, 257, 500] {
         let mut run = Vec::new();
         for i in 0..count {
-            let mut bytes = framed(2 + i as u8 % 2, i as u16, &TWO[..i % 12]);
+            let mut bytes = framed([2, 3, 5][i % 3], i as u16, &TWO[..i % 12]);
             bytes[2] ^= (i % 3 / 2) as u8;
             run.extend(bytes);
         }
@@ -158,7 +158,7 @@ pub fn many(tally: &mut Tally, held: &mut Held) {
 pub fn random(tally: &mut Tally, held: &mut Held, chance: &mut Chance) {
     if chance.below(8) == 0 {
         let letters = [
-            0, 0, 6, 7, 8, 11, 0xD0, 0xD0, 0x13, 0x53, 0x02, 0x80, 0x04, 0x7F, 0xFE, 0xFF,
+            0, 0, 5, 6, 7, 8, 11, 0xD0, 0xD0, 0x13, 0x53, 0x02, 0x80, 0x04, 0x7F, 0xFE, 0xFF,
         ];
         let bytes = (0..chance.below(64)).map(|_| match chance.below(4) {
             0 => chance.byte(),

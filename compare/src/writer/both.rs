@@ -4,7 +4,7 @@ use super::case::Held;
 use super::{random_length, ROOM};
 use crate::answers::{answered, done, expected, of_error, refused, Bytes};
 use crate::port::{self, Loan};
-use crate::{Chance, Tally};
+use crate::{five, Chance, Tally};
 use db2_proto::dss::DssWriter;
 
 /// Frames one behind the other in one room, against one writer of the Rust, which keeps them all. At times the correlation goes
@@ -20,6 +20,7 @@ pub fn one_behind_the_other(tally: &mut Tally, held: &mut Held, chance: &mut Cha
         id: 7,
         fill: 0,
         room: held.room.part(0, room).to_vec(),
+        no_replies: Vec::new(),
     };
     for _ in 0..4 + chance.below(20) {
         match chance.below(10) {
@@ -44,12 +45,14 @@ pub fn one_behind_the_other(tally: &mut Tally, held: &mut Held, chance: &mut Cha
     both.finish(tally, held);
 }
 
-/// The Rust's writer, the port's, and what the room should hold.
+/// The Rust's writer, the port's, and what the room should hold; and where frames of type 5 start, of which the Rust's writer has
+/// a request's.
 struct Both {
     rust: DssWriter,
     id: u16,
     fill: usize,
     room: Vec<u8>,
+    no_replies: Vec<usize>,
 }
 
 impl Both {
@@ -66,6 +69,10 @@ impl Both {
             Ok(()) => {
                 let end = rust.data().len();
                 self.room[before..end].copy_from_slice(&rust.data()[before..]);
+                if call.no_reply() {
+                    five::made(&mut self.room[before..end]);
+                    self.no_replies.push(before);
+                }
                 self.rust = rust;
                 done(&[self.rust.correlation_id() as u64, end as u64])
             }
@@ -85,7 +92,8 @@ impl Both {
             .with_run(&held.payload, bytes);
         let rust = expected(answer, 8).laying(&self.room);
         let input = [self.id as usize, self.fill, len, self.room.len()].map(usize::to_be_bytes);
-        tally.answer(call.named().0, input.as_flattened(), port, rust);
+        let (by, name) = (call.by(), call.named().0);
+        tally.answer_by(by, name, input.as_flattened(), port, rust);
         // The writer that the port hands back writes on.
         if let [0, _, id, fill] = *held.words.part(0, 4) {
             (self.id, self.fill) = (id as u16, fill as usize);
@@ -96,7 +104,11 @@ impl Both {
     fn finish(&mut self, tally: &mut Tally, held: &Held) {
         let filled = held.room.part(0, self.fill.min(self.room.len()));
         let port = (Bytes(filled.to_vec()), self.id);
-        let rust = (Bytes(self.rust.finish()), self.rust.correlation_id());
+        let mut bytes = self.rust.finish();
+        for at in self.no_replies.drain(..) {
+            five::made(&mut bytes[at..]);
+        }
+        let rust = (Bytes(bytes), self.rust.correlation_id());
         tally.same("finish", &self.fill.to_be_bytes(), port, rust);
         self.fill = 0;
     }

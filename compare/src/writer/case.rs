@@ -105,7 +105,8 @@ impl Case {
         let port = port
             .with_room(&held.room, self.fill, rust.bytes_laid())
             .with_run(&held.payload, bytes);
-        tally.answer(self.call.named().0, &self.input(room), port, rust);
+        let (by, name) = (self.call.by(), self.call.named().0);
+        tally.answer_by(by, name, &self.input(room), port, rust);
     }
 }
 

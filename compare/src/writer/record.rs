@@ -42,6 +42,7 @@ fn asked(case: &Case) -> (u64, Vec<u64>) {
         Full { dss_type, flags } => (16, marked(dss_type, flags)),
         Dss { dss_type, chained } => (17, marked(dss_type, chained)),
         Request { chained } => (18, marked(chained, 0)),
+        RequestNoReply { chained } => (22, marked(chained, 0)),
         Object { chained } => (19, marked(chained, 0)),
         ObjectSame { chained } => (20, marked(chained, 0)),
         RequestSame { chained } => (21, marked(chained, 0)),

@@ -13,8 +13,9 @@ use Rattle.wire.specs.Laws.{by, pick-yes, pick-no, picked}
 use Rattle.answer.specs.declared.Refused.{Refused}
 use Rattle.wire.specs.Octets.{Octets, octets-tested}
 use Rattle.dss_head.specs.Heads.{typeAt, typeByte, bit, flagsOf, flagsByte, headWith, headAt, lengthOf}
+use Rattle.dss_head.specs.Types.{type-read}
 use Rattle.dss_head.specs.declared.DssType.{DssType}
-use Rattle.dss_head.specs.declared.DssType.the-variants.{Request, Reply, Object, Communication}
+use Rattle.dss_head.specs.declared.DssType.the-variants.{Request}
 use Rattle.dss_head.specs.declared.DssFlags.{DssFlags}
 use Rattle.dss_head.specs.declared.DssHeader.{DssHeader}
 use Rattle.dss_head.specs.declared.TypeFound.{TypeFound}
@@ -40,22 +41,8 @@ weigh w b =
     to : (n m : ℕ) → b / w % 2 ≡ n → m ≡ w * n → m ≡ w * (b / w % 2)
     to n m e f = f ∙ ap (λ (k : ℕ). w * k) (sym e)
 
-never : {P : Type 0} {r : Refused} {t : DssType} → NoType r ≡ Is t → P
+never : {P : Type 0} {r : Refused} {h : DssHeader} → Refuses r ≡ Head h → P
 never e = absurd (let z : _≡_ {A = ℕ} 0 1 = cc in omega arith)
-
-never′ : {P : Type 0} {r : Refused} {h : DssHeader} → Refuses r ≡ Head h → P
-never′ e = absurd (let z : _≡_ {A = ℕ} 0 1 = cc in omega arith)
-
--- the low four bits are the type's number
-type-low : (b : ℕ) (t : DssType) → typeAt b 0 ≡ Is t → b % 16 ≡ typeByte t
-type-low b t e =
-    picked (eqb (b % 16) 1) e (λ u k. is Request u k) (λ _ e.
-    picked (eqb (b % 16) 2) e (λ u k. is Reply u k) (λ _ e.
-    picked (eqb (b % 16) 3) e (λ u k. is Object u k) (λ _ e.
-    picked (eqb (b % 16) 4) e (λ u k. is Communication u k) (λ _ e. never e))))
-  where
-    is : (x : DssType) → eqb (b % 16) (typeByte x) ≡ true → Is x ≡ Is t → b % 16 ≡ typeByte t
-    is x u k = let q : x ≡ t = cc in eqb-true (b % 16) (typeByte x) u ∙ ap typeByte q
 
 -- without continue on error and 0x80: the type and the other two flags
 abbrev flagsKept : ℕ → DssFlags
@@ -70,7 +57,7 @@ format-is b t h e c d =
     let y : b / 0x20 ≡ 2 * (b / 0x40) = omega arith in
     let z : b / 0x10 ≡ 2 * (b / 0x20) + b / 0x10 % 2 = omega arith in
     let v : b ≡ 16 * (b / 0x10) + b % 16 = omega arith in
-    omega (arith, type-low b t e, weigh 0x40 b, weigh 0x10 b)
+    omega (arith, type-read b 0 t e, weigh 0x40 b, weigh 0x10 b)
 
 -- ---- the six bytes
 
@@ -109,16 +96,16 @@ module _ (s : List ℕ) where
 pub head-kept : (s : List ℕ) (h : DssHeader) → Octets s → headAt s 0 ≡ Head h → h .flags .«continue_on_error» ≡ false → bit 0x80 (getD s 3 0) ≡ false
     → (payload : List ℕ) → reframed s payload ≡ written (sentOf h payload)
 head-kept s h o e c d payload =
-    picked (ltb (length s - 0) 6) e (λ _ k. never′ k) (λ t e.
+    picked (ltb (length s - 0) 6) e (λ _ k. never k) (λ t e.
     picked (eqb (getD s 2 0) 0xD0) e
-    (λ u k. go (omega (arith, ltb-false (length s - 0) 6 t)) (eqb-true (getD s 2 0) 0xD0 u) (typeAt (getD s 3 0) 0) refl k) (λ _ k. never′ k))
+    (λ u k. go (omega (arith, ltb-false (length s - 0) 6 t)) (eqb-true (getD s 2 0) 0xD0 u) (typeAt (getD s 3 0) 0) refl k) (λ _ k. never k))
   where
     go : 6 ≤ length s → getD s 2 0 ≡ 0xD0 → (x : TypeFound) → typeAt (getD s 3 0) 0 ≡ x → headWith s 0 x ≡ Head h
         → reframed s payload ≡ written (sentOf h payload)
     go six m (Is t) q k =
         let w : headWas s t ≡ h = cc in
         kept s t o six m q (ap (λ (x : DssHeader). x .flags .«continue_on_error») w ∙ c) d payload ∙ ap (λ (x : DssHeader). written (sentOf x payload)) w
-    go six m (NoType r) q k = never′ k
+    go six m (NoType r) q k = never k
 
 -- ---- met, and needed
 

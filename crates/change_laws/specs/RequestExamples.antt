@@ -42,8 +42,8 @@ unfolding requestOf parameters
 cut = (refl, refl, refl, refl)
 
 -- 2 comes before 3, 3 before 7, and 7 before 17 for the byte behind the frame
-heads : (requestOf (0 ∷ 6 ∷ 0xD1 ∷ 0x15 ∷ 0 ∷ 3 ∷ []) 0x2110 [] ≡ no (InvalidMagic 0xD1) 0)
-    × (requestOf (0 ∷ 5 ∷ 0xD0 ∷ 0x15 ∷ 0 ∷ 3 ∷ []) 0x2110 [] ≡ no (InvalidDssType 5) 0)
+heads : (requestOf (0 ∷ 6 ∷ 0xD1 ∷ 0x16 ∷ 0 ∷ 3 ∷ []) 0x2110 [] ≡ no (InvalidMagic 0xD1) 0)
+    × (requestOf (0 ∷ 5 ∷ 0xD0 ∷ 0x16 ∷ 0 ∷ 3 ∷ []) 0x2110 [] ≡ no (InvalidDssType 6) 0)
     × (requestOf (0 ∷ 5 ∷ 0xD0 ∷ 1 ∷ 0 ∷ 3 ∷ []) 0x2110 [] ≡ no (LengthTooShort 5) 0)
 unfolding requestOf parameters
 heads = (refl, refl, refl)
@@ -90,11 +90,12 @@ lacks = refl
 
 -- ---- the frame after
 
--- all four high bits of the format byte stay, and so does a reply's type
+-- all four high bits of the format byte stay, and so does a reply's type, and that of a request that wants no reply
 kept : (requestOf (framed 0xF1 (object seven)) 0x2110 (8 ∷ 9 ∷ []) ≡ laysFrame (framed 0xF1 (object (0 ∷ 6 ∷ 0x21 ∷ 0x10 ∷ 8 ∷ 9 ∷ []))))
     × (requestOf (framed 0xA2 (object seven)) 0x2110 [] ≡ laysFrame (framed 0xA2 (object (0 ∷ 4 ∷ 0x21 ∷ 0x10 ∷ []))))
+    × (requestOf (framed 0x75 (object seven)) 0x2110 [] ≡ laysFrame (framed 0x75 (object (0 ∷ 4 ∷ 0x21 ∷ 0x10 ∷ []))))
 unfolding requestOf parameters
-kept = (refl, refl)
+kept = (refl, refl, refl)
 
 -- a frame as it is written; of a request as it is built, whose parameter 0x2110 has n bytes: n + 8 in all up to n = 32,759
 sent : List ℕ → List ℕ

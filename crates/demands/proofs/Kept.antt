@@ -3,7 +3,7 @@
 -- arguments as they then are; `at-last room l` is the room that then holds l. What the lines say holds stands in KeptMeaning, in
 -- ReaderKeeps (`AllBack`) and in SalvageKeeps (`Recovered`); examples that meet what they ask, in KeptExamples and SeveralRun. Of the
 -- calls that write, the widest is taken: the contracts of the writer's others are the same record, at a type and flags of their own.
-use Prim.Native.Nat.{ℕ, _*_, _≤_}
+use Prim.Native.Nat.{ℕ, _*_, _%_, _≤_}
 use mathlib.Core.Path.{_≡_, refl, subst}
 use mathlib.Core.Logic.{_⊎_}
 use mathlib.Core.Bool.{Bool, true}
@@ -21,11 +21,16 @@ use denote.Ref.{RefT, at-last}
 use Rattle.wire.specs.Bytes.{part}
 use Rattle.answer.specs.Numbers.{numberOf}
 use Rattle.answer.specs.declared.Refused.{Refused}
-use Rattle.dss_head.specs.Heads.{typeAt, bit}
+use Rattle.dss_head.specs.Heads.{typeAt, headAt, bit}
 use Rattle.dss_head.specs.declared.DssType.{DssType}
+use Rattle.dss_head.specs.declared.TypeFound.{TypeFound}
 use Rattle.dss_head.specs.declared.TypeFound.the-variants.{Is}
+use Rattle.dss_head.specs.declared.HeadFound.{HeadFound}
+use Rattle.dss_head.specs.declared.HeadFound.the-variants.{Refused as NoHead}
+use Rattle.dss_head.proofs.DssType.from_byte.Reads as from-byte
+use Rattle.dss_head.proofs.DssHeader.parse.Reads as parse
 use Rattle.dss_frame.specs.Written.{Sent, written}
-use Rattle.dss_frame.specs.Reading.{Frame, readAt, positionAfter}
+use Rattle.dss_frame.specs.Reading.{Frame, refused, readAt, positionAfter}
 use Rattle.dss_frame.specs.Frames.{frames, allFrames}
 use Rattle.dss_frame.specs.Records.{payloadsOf}
 use Rattle.dss_frame.specs.Salvage.{salvaged}
@@ -62,14 +67,16 @@ use Rattle.gateway_salvage.proofs.lattrugone_salvage.Reads as lattrugone-salvag
 use Rattle.layouts.specs.DssLayout.{Structure, Allowed, Dss, FullLast}
 use Rattle.demands.specs.Demands.{Sendable, Unreadable, ReadsEverySize, Item, run}
 use Rattle.demands.specs.AllFrames.{AllAlone, joined}
+use Rattle.demands.specs.FourTypes.{fourTypes, fourHeads, readBy, TypesAsFour, typeFive, FiveAt, SameOrFive, HeadsAsFour, ReadsAsFour, AllAsFour}
+use Rattle.demands.specs.NoReply.{RefusesSpoilt}
 use Rattle.demands.specs.AsRead.{NoneFull, SalvagesAsRead, TellsWhy}
-use Rattle.demands.specs.Layouts.{structureOf, WritesLayout, ReadsLayout, ReadsFullLast, WaitsBehindFull, RefusesFive, LayoutFixes}
+use Rattle.demands.specs.Layouts.{structureOf, WritesLayout, ReadsLayout, ReadsFullLast, WaitsBehindFull, LayoutFixes}
 use Rattle.demands.specs.Longer.{TakenStay, WaitingLosesNothing}
 use Rattle.demands.specs.Mending.{StopsWaiting, decided}
 use Rattle.demands.proofs.WrittenLayout.{writes-layout}
-use Rattle.demands.proofs.LayoutReads.{reads-layout, reads-full-last, waits-behind-full, refuses-five}
+use Rattle.demands.proofs.LayoutReads.{reads-layout, reads-full-last, waits-behind-full}
 use Rattle.demands.proofs.FaithfulLayout.{layout-fixes}
-use Rattle.demands.proofs.LayoutCalls.{write-dss-laid, next-frame-laid, layout-not-whole, layout-five}
+use Rattle.demands.proofs.LayoutCalls.{write-dss-laid, next-frame-laid, layout-not-whole}
 use Rattle.demands.proofs.LongerTaken.{reader-taken-stay, reader-decided-stay, reader-loses-nothing}
 use Rattle.demands.proofs.LongerCalls.{calls-same, has-whole, end-decided, words-same}
 use Rattle.demands.proofs.Mending.{stops-waiting}
@@ -77,13 +84,16 @@ use Rattle.demands.proofs.DeadCalls.{calls-dead, words-dead}
 use Rattle.demands.proofs.ReadBack.{reads-every-size}
 use Rattle.demands.proofs.AsRead.{salvages-as-read, tells-why}
 use Rattle.demands.proofs.AsReadCalls.{as-read-words}
+use Rattle.demands.proofs.FourTypes.{types-as-four, heads-as-four, reads-as-four, all-as-four}
+use Rattle.demands.proofs.FourTypesCalls.{from-byte-four, parse-four, next-frame-four, words-four}
+use Rattle.demands.proofs.SpoiltFrames.{refuses-spoilt}
 use Rattle.demands.proofs.ReaderKeeps.{payloads, AllBack}
 use Rattle.demands.proofs.ReaderClauses.{read-all-frames-back}
 use Rattle.demands.proofs.SalvageKeeps.{allBytes, Recovered}
 use Rattle.demands.proofs.SalvageClauses.{salvage-recovers, salvage-refuses}
-use Rattle.demands.proofs.KeptMeaning.{behind, ReadAgain, NotReadAgain, ReadAgainInWords, NotReadAgainInWords, AllBackInWords, RecoveredInWords, RefusedInWords, SameInWords, StructureBack, StructureBackInWords, LaidInWords, notYet, typeFive, RefusedAs}
+use Rattle.demands.proofs.KeptMeaning.{behind, ReadAgain, NotReadAgain, ReadAgainInWords, NotReadAgainInWords, AllBackInWords, RecoveredInWords, RefusedInWords, SameInWords, StructureBack, StructureBackInWords, LaidInWords, notYet, RefusedAs, AnsweredAs, AnsweredInWordsAs}
 use Rattle.demands.proofs.KeptFrame.{read-again, not-read-again, read-again-words, not-read-again-words}
-use Rattle.demands.proofs.KeptLayouts.{laid-in-words, structure-back, full-last, type-five}
+use Rattle.demands.proofs.KeptLayouts.{laid-in-words, structure-back, full-last}
 use Rattle.demands.proofs.KeptRows.{frames-back-words, recovers-words}
 use Rattle.demands.proofs.KeptRefusals.{writes-kept, reads-kept, all-kept, sends-kept, frame-kept, frames-kept, salvage-kept}
 
@@ -217,15 +227,12 @@ layout-written = writes-layout
 pub layout-read : ReadsLayout (readAt Reader)
 layout-read = reads-layout
 
--- under salvage's rules a full last chunk is no difference
+-- under salvage's rules a full last chunk is no difference, and there is no other
 pub layout-read-full : ReadsFullLast (readAt Salvage)
 layout-read-full = reads-full-last
 
 pub layout-waits : WaitsBehindFull (readAt Reader)
 layout-waits = waits-behind-full
-
-pub layout-refused : RefusesFive (readAt Reader)
-layout-refused = refuses-five
 
 pub layout-fixed : LayoutFixes Dss
 layout-fixed = layout-fixes
@@ -237,16 +244,13 @@ pub laid-out : (κs : Lfts 2) (w d : DssWriter) (t : DssType) (chained same : Bo
     → Dss (structureOf (sent (w .«correlation_id») t chained same (payload .now))) (part laid (w .fill) (d .fill))
 laid-out κs w d t chained same payload room laid a p = write-dss-laid κs w d t chained same payload room laid a p
 
--- Bytes with a structure's layout are read as the structure, from their first on; with a full last chunk it is 1, of type 5 it is 3.
+-- Bytes with a structure's layout are read as the structure, from their first on; with a full last chunk it is 1.
 module _ (κs : Lfts 2) (b room : RefT (List ℕ)) (r : FrameRead) (after : List ℕ) (w : Structure) (l : Dss w (b .now)) (p : next-frame.Post κs (standsAt 0, (b, (room, tt))) r (standsAt 0, (b, (at-last room after, tt)))) where
-  pub laid-read : (FullLast l → ⊥) → (w .type ≡ 5 → ⊥) → length (w .payload) ≤ length (room .now) → StructureBack w (b .now) (room .now) r after
-  laid-read n ne h = next-frame-laid κs (standsAt 0) b room r after w l refl n ne h p
+  pub laid-read : (FullLast l → ⊥) → length (w .payload) ≤ length (room .now) → StructureBack w (b .now) (room .now) r after
+  laid-read n h = next-frame-laid κs (standsAt 0) b room r after w l refl n h p
 
   pub laid-not-whole : FullLast l → (r ≡ NotRead (notYet 0) (standsAt 0)) × (after ≡ room .now)
   laid-not-whole n = layout-not-whole w (b .now) l (room .now) r after p n
-
-  pub laid-five : (FullLast l → ⊥) → w .type ≡ 5 → (r ≡ NotRead (typeFive 0) (standsAt 0)) × (after ≡ room .now)
-  laid-five n e = layout-five w (b .now) l (room .now) r after p n e
 
 -- The same of the exported functions, lent eight words.
 pub exported-laid-out : (κs : Lfts 3) (id fill type flags : ℕ) (t : DssType) (payload room words : RefT (List ℕ)) (laid answer : List ℕ)
@@ -257,14 +261,46 @@ exported-laid-out κs id fill type flags t payload room words laid answer typed 
     laid-in-words (typeAt type 0) t typed id fill (frameOf id (bit 0x40 flags) (bit 0x10 flags) (payload .now)) refl (room .now) (words .now) laid answer k p a
 
 module _ (κs : Lfts 3) (b room words : RefT (List ℕ)) (number : ℕ) (after answer : List ℕ) (w : Structure) (l : Dss w (b .now)) (eight : 8 ≤ length (words .now)) (p : lattrugone-next-frame.Post κs (b, (0, (room, (words, tt)))) number (b, (0, (at-last room after, (at-last words answer, tt))))) where
-  pub exported-laid-read : (FullLast l → ⊥) → (w .type ≡ 5 → ⊥) → length (w .payload) ≤ length (room .now) → StructureBackInWords w (b .now) (room .now) number answer after
-  exported-laid-read n ne h = structure-back w (b .now) l (room .now) (words .now) eight number after answer p n ne h
+  pub exported-laid-read : (FullLast l → ⊥) → length (w .payload) ≤ length (room .now) → StructureBackInWords w (b .now) (room .now) number answer after
+  exported-laid-read n h = structure-back w (b .now) l (room .now) (words .now) eight number after answer p n h
 
   pub exported-laid-not-whole : FullLast l → RefusedAs (notYet 0) (room .now) number answer after
   exported-laid-not-whole n = full-last w (b .now) l (room .now) (words .now) eight number after answer p n
 
-  pub exported-laid-five : (FullLast l → ⊥) → w .type ≡ 5 → RefusedAs (typeFive 0) (room .now) number answer after
-  exported-laid-five n e = type-five w (b .now) l (room .now) (words .now) eight number after answer p n e
+-- ---- Demand 2, "Each ported call, given room, equals the Rust on every input". That the four-type reading is the Rust's is compared, not
+-- proved. W-210, "leaves out runs with type 5, since the Rust refuses it": what is left out, and no more. Each reading is what the
+-- four-type reading is, unless that refuses a type 5 that stands in the run.
+
+pub types-as-rust : TypesAsFour typeAt
+types-as-rust = types-as-four
+
+pub heads-as-rust : HeadsAsFour headAt
+heads-as-rust = heads-as-four
+
+pub read-as-rust : ReadsAsFour (readAt Reader)
+read-as-rust = reads-as-four
+
+pub all-read-as-rust : AllAsFour allFrames
+all-read-as-rust = all-as-four
+
+-- so of the calls
+pub type-as-rust : (κs : Lfts 0) (b : ℕ) (r : TypeFound) → (b % 16 ≡ 5 → ⊥) → from-byte.Post κs (b, tt) r (b, tt) → r ≡ fourTypes b 0
+type-as-rust κs b r h p = from-byte-four κs b r h p
+
+pub head-as-rust : (κs : Lfts 1) (bytes : RefT (List ℕ)) (r : HeadFound) → parse.Post κs (bytes, tt) r (bytes, tt) → SameOrFive (bytes .now) NoHead r (fourHeads (bytes .now) 0)
+head-as-rust κs bytes r p = parse-four κs bytes r p
+
+pub next-frame-as-rust : (κs : Lfts 2) (reader : DssReader) (s room : RefT (List ℕ)) (r : FrameRead) (after : List ℕ)
+    → next-frame.Post κs (reader, (s, (room, tt))) r (reader, (s, (at-last room after, tt)))
+    → AnsweredAs (s .now) (reader .position) (room .now) (readBy fourHeads (s .now) (reader .position)) r after
+    ⊎ record { q : ℕ; five : FiveAt (s .now) q; is : readBy fourHeads (s .now) (reader .position) ≡ refused (typeFive q) }
+next-frame-as-rust κs reader s room r after p = next-frame-four (s .now) (reader .position) (room .now) r after p
+
+pub exported-next-frame-as-rust : (κs : Lfts 3) (s : RefT (List ℕ)) (at : ℕ) (room words : RefT (List ℕ)) (number : ℕ) (after answer : List ℕ)
+    → lattrugone-next-frame.Post κs (s, (at, (room, (words, tt)))) number (s, (at, (at-last room after, (at-last words answer, tt))))
+    → AnsweredInWordsAs (s .now) at (room .now) (words .now) (readBy fourHeads (s .now) at) number after answer
+    ⊎ record { q : ℕ; five : FiveAt (s .now) q; is : readBy fourHeads (s .now) at ≡ refused (typeFive q) }
+exported-next-frame-as-rust κs s at room words number after answer p = words-four (s .now) at (room .now) (words .now) number after answer p
 
 -- ---- When a frame may be taken while bytes still come in: once a whole frame stands behind it, by `has_complete_frame`. Then no bytes
 -- that follow change it; and waiting for that loses nothing that was read.
@@ -344,6 +380,10 @@ exported-dead-again κs κs′ at s longer room again words words′ more after 
 -- field. Given room, the salvage reading hands out every other frame, in order and exactly as written, and one refusal at the first byte
 -- of each spoilt frame, and nothing else."
 -- W-205: "From then on demand 3 has no forbidden sizes, and is to be proved so." None is left out here.
+-- W-210: "demand 3's spoilt type is outside 1 to 5". A head is refused exactly where that or its magic byte is spoilt.
+
+pub spoilt-told : RefusesSpoilt headAt
+spoilt-told = refuses-spoilt
 
 pub salvaged-back : {M : Type 1} (𝓤 : URA M) (H : Heap 𝓤) (A : Atoms 𝓤) (mem : Memory → SProp 𝓤) (routines : Routine → Fun 𝓤) (κs : Lfts 3) (s room : RefT (List ℕ)) (row : RefT (List SalvageEntry)) (r : Salvaged) (room-after : List ℕ) (row-after : List SalvageEntry)
     → (items : List (Item written)) → s .now ≡ run items → length (allBytes items) ≤ length (room .now) → length items ≤ length (row .now)

@@ -11,7 +11,7 @@ use Rattle.wire.specs.Bytes.{part, splice, laid}
 use Rattle.wire.specs.Octets.{octets-tested}
 use Rattle.answer.specs.Rooms.{noRoom}
 use Rattle.answer.specs.declared.Refusal.the-variants.{InvalidMagic}
-use Rattle.dss_head.specs.declared.DssType.the-variants.{Request, Reply}
+use Rattle.dss_head.specs.declared.DssType.the-variants.{Request, Reply, NoReply}
 use Rattle.dss_frame.specs.Segments.{payloadOf, endOf, frameWalk, continuations, walkFuel}
 use Rattle.dss_frame.specs.Reading.{Read, refused, readAt, absorb, absorbFuel, look}
 use Rattle.dss_frame.specs.Records.{payloadsOf, recordsOf}
@@ -50,8 +50,8 @@ use Rattle.demands.proofs.SeveralRun.{alike}
 use Rattle.demands.proofs.ExampleRun.{three, three-run, three-sizes}
 use Rattle.demands.proofs.WrittenLayout.{allowed-sent}
 use Rattle.demands.proofs.LayoutExamples as layouts
-use Rattle.demands.proofs.KeptMeaning.{notYet, ReadAgain, NotReadAgain, ReadAgainInWords, NotReadAgainInWords, AllBackInWords, RecoveredInWords, RefusedInWords, StructureBack, StructureBackInWords, LaidInWords, typeFive, RefusedAs}
-use Rattle.demands.proofs.Kept.{write-refused, read-refused, Calls, read-back, not-whole, ExportedCalls, exported-read-back, exported-not-whole, exported-all-read-back, exported-salvaged-back, exported-write-refused, exported-read-refused, exported-all-read-refused, exported-salvage-refused, laid-out, laid-read, laid-not-whole, laid-five, exported-laid-out, exported-laid-read, exported-laid-not-whole, exported-laid-five, taken-again, exported-taken-again}
+use Rattle.demands.proofs.KeptMeaning.{notYet, ReadAgain, NotReadAgain, ReadAgainInWords, NotReadAgainInWords, AllBackInWords, RecoveredInWords, RefusedInWords, StructureBack, StructureBackInWords, LaidInWords, RefusedAs}
+use Rattle.demands.proofs.Kept.{write-refused, read-refused, Calls, read-back, not-whole, ExportedCalls, exported-read-back, exported-not-whole, exported-all-read-back, exported-salvaged-back, exported-write-refused, exported-read-refused, exported-all-read-refused, exported-salvage-refused, laid-out, laid-read, laid-not-whole, exported-laid-out, exported-laid-read, exported-laid-not-whole, taken-again, exported-taken-again}
 
 -- bytes or words that are lent
 abbrev pub lending : List ℕ → RefT (List ℕ)
@@ -288,13 +288,13 @@ pub asked-back : (κs : Lfts 2) → StructureBack (layouts.asking true) layouts.
 unfolding FullLast layouts.asked-laid splice laid readAt absorb absorbFuel look payloadOf endOf frameWalk continuations walkFuel
 asked-back κs =
     laid-read κs (lending layouts.asked) (lending (8 ∷ 8 ∷ [])) (Hands asked-frame (standsAt 7)) (0xC1 ∷ 8 ∷ []) (layouts.asking true) layouts.asked-laid
-    (record { answers = refl; room-is = refl }) (λ k. k) (λ e. omega arith) (omega arith)
+    (record { answers = refl; room-is = refl }) (λ k. k) (omega arith)
 
 pub asked-in-words : (κs : Lfts 3) → StructureBackInWords (layouts.asking true) layouts.asked (8 ∷ 8 ∷ []) 0 (0 ∷ 7 ∷ 7 ∷ 0x71 ∷ 0x1234 ∷ 1 ∷ 1 ∷ 0 ∷ []) (0xC1 ∷ 8 ∷ [])
 unfolding FullLast layouts.asked-laid splice laid readAt absorb absorbFuel look payloadOf endOf frameWalk continuations walkFuel
 asked-in-words κs =
     exported-laid-read κs (lending layouts.asked) (lending (8 ∷ 8 ∷ [])) (lending (replicate 8 9)) 0 (0xC1 ∷ 8 ∷ []) (0 ∷ 7 ∷ 7 ∷ 0x71 ∷ 0x1234 ∷ 1 ∷ 1 ∷ 0 ∷ [])
-    (layouts.asking true) layouts.asked-laid (omega arith) (record { answers = record { number-is = refl; words-are = refl }; room-is = refl }) (λ k. k) (λ e. omega arith) (omega arith)
+    (layouts.asking true) layouts.asked-laid (omega arith) (record { answers = record { number-is = refl; words-are = refl }; room-is = refl }) (λ k. k) (omega arith)
 
 -- two segments, the last of them full: 1
 abbrev two-full : List ℕ
@@ -323,18 +323,26 @@ two-full-in-words κs =
     })
     two-full-last
 
--- `0006D0050007`, of type 5: 3 with 5
-pub five-not-read : (κs : Lfts 2) → (_≡_ {A = FrameRead} (NotRead (typeFive 0) (standsAt 0)) (NotRead (typeFive 0) (standsAt 0))) × (_≡_ {A = List ℕ} (replicate 3 9) (replicate 3 9))
-unfolding FullLast layouts.five-laid splice laid readAt absorb absorbFuel look payloadOf endOf frameWalk continuations walkFuel
-five-not-read κs =
-    laid-five κs (lending layouts.p4) (lending (replicate 3 9)) (NotRead (typeFive 0) (standsAt 0)) (replicate 3 9) layouts.noReply layouts.five-laid
-    (record { answers = refl; room-is = refl }) (λ k. k) refl
+-- `0006D0050007`, a request that wants no reply
+abbrev no-reply-frame : DssFrame
+no-reply-frame = record {
+  header = record { length = 6; «dss_type» = NoReply; flags = record { chained = false; «continue_on_error» = false; «same_correlation» = false }; «correlation_id» = 7 };
+  «payload_at» = 0;
+  «payload_len» = 0;
+  segments = 1;
+}
 
-pub five-in-words : (κs : Lfts 3) → RefusedAs (typeFive 0) (replicate 3 9) 3 (3 ∷ 0 ∷ 5 ∷ replicate 5 0) (replicate 3 9)
-unfolding FullLast layouts.five-laid splice laid readAt absorb absorbFuel look payloadOf endOf frameWalk continuations walkFuel
-five-in-words κs =
-    exported-laid-five κs (lending layouts.p4) (lending (replicate 3 9)) (lending (replicate 8 9)) 3 (replicate 3 9) (3 ∷ 0 ∷ 5 ∷ replicate 5 0) layouts.noReply layouts.five-laid (omega arith)
-    (record { answers = record { number-is = refl; words-are = refl }; room-is = refl }) (λ k. k) refl
+pub no-reply-back : (κs : Lfts 2) → StructureBack layouts.noReply layouts.unanswered (9 ∷ []) (Hands no-reply-frame (standsAt 6)) (9 ∷ [])
+unfolding FullLast layouts.no-reply-laid splice laid readAt absorb absorbFuel look payloadOf endOf frameWalk continuations walkFuel
+no-reply-back κs =
+    laid-read κs (lending layouts.unanswered) (lending (9 ∷ [])) (Hands no-reply-frame (standsAt 6)) (9 ∷ []) layouts.noReply layouts.no-reply-laid
+    (record { answers = refl; room-is = refl }) (λ k. k) (omega arith)
+
+pub no-reply-in-words : (κs : Lfts 3) → StructureBackInWords layouts.noReply layouts.unanswered (9 ∷ []) 0 (0 ∷ 6 ∷ 6 ∷ 0x05 ∷ 7 ∷ 0 ∷ 1 ∷ 0 ∷ []) (9 ∷ [])
+unfolding FullLast layouts.no-reply-laid splice laid readAt absorb absorbFuel look payloadOf endOf frameWalk continuations walkFuel
+no-reply-in-words κs =
+    exported-laid-read κs (lending layouts.unanswered) (lending (9 ∷ [])) (lending (replicate 8 9)) 0 (9 ∷ []) (0 ∷ 6 ∷ 6 ∷ 0x05 ∷ 7 ∷ 0 ∷ 1 ∷ 0 ∷ [])
+    layouts.noReply layouts.no-reply-laid (omega arith) (record { answers = record { number-is = refl; words-are = refl }; room-is = refl }) (λ k. k) (omega arith)
 
 -- ---- a frame that may be taken: the first of two, and more bytes behind them
 

@@ -32,8 +32,8 @@ use Rattle.layouts.specs.DssLayout.{Structure, Allowed, Dss, FullLast, format}
 use Rattle.demands.specs.Layouts.{structureOf, Says}
 use Rattle.demands.proofs.FaithfulLayout.{format-told, allowed-in}
 use Rattle.demands.proofs.WrittenLayout.{flagsIn}
-use Rattle.demands.proofs.LayoutCalls.{done-refused, same-done, between-laid, layout-back, layout-not-whole, layout-five}
-use Rattle.demands.proofs.KeptMeaning.{StructureInWords, StructureBackInWords, LaidInWords, notYet, typeFive, RefusedAs}
+use Rattle.demands.proofs.LayoutCalls.{done-refused, same-done, between-laid, layout-back, layout-not-whole}
+use Rattle.demands.proofs.KeptMeaning.{StructureInWords, StructureBackInWords, LaidInWords, notYet, RefusedAs}
 use Rattle.demands.proofs.KeptFrame.{answer-says}
 
 -- ---- what was laid down
@@ -100,9 +100,9 @@ module _ (w : Structure) (b : List ℕ) (l : Dss w b) (room words : List ℕ) (k
   answers : (x : FrameRead) → r ≡ x → Answered (frameWords x) words number answer
   answers x e = subst (λ (y : FrameRead). Answered (frameWords y) words number answer) e (p .answers)
 
-  pub structure-back : (FullLast l → ⊥) → (w .type ≡ 5 → ⊥) → length (w .payload) ≤ length room → StructureBackInWords w b room number answer after
-  structure-back n ne h =
-      let x = layout-back w b l room r after as-call n ne h in
+  pub structure-back : (FullLast l → ⊥) → length (w .payload) ≤ length room → StructureBackInWords w b room number answer after
+  structure-back n h =
+      let x = layout-back w b l room r after as-call n h in
       let a = answers (Hands (recordOf b 0 (x .read)) (standsAt (length b))) (x .is) in
       record {
         number-is = a .number-is;
@@ -116,6 +116,3 @@ module _ (w : Structure) (b : List ℕ) (l : Dss w b) (room words : List ℕ) (k
 
   pub full-last : FullLast l → RefusedAs (notYet 0) room number answer after
   full-last n = refused-as (notYet 0) (layout-not-whole w b l room r after as-call n)
-
-  pub type-five : (FullLast l → ⊥) → w .type ≡ 5 → RefusedAs (typeFive 0) room number answer after
-  type-five n e = refused-as (typeFive 0) (layout-five w b l room r after as-call n e)

@@ -6,22 +6,24 @@ use mathlib.Core.List.{List, [], _∷_}
 use lib.ListN.{length, getD, take, drop}
 use Rattle.wire.specs.Bytes.{part, splice}
 use Rattle.answer.specs.Numbers.{numberOf}
-use Rattle.answer.specs.declared.Refusal.the-variants.{Incomplete, InvalidDssType}
+use Rattle.answer.specs.declared.Refusal.the-variants.{Incomplete}
 use Rattle.answer.specs.declared.Refused.{Refused}
 use Rattle.dss_head.specs.Heads.{typeAt, flagsOf}
 use Rattle.dss_head.specs.declared.DssFlags.{DssFlags}
 use Rattle.dss_head.specs.declared.TypeFound.the-variants.{Is}
-use Rattle.dss_frame.specs.Reading.{Frame}
+use Rattle.dss_frame.specs.Reading.{Frame, Read}
 use Rattle.dss_frame.specs.Records.{recordOf}
 use Rattle.dss_frame.specs.Written.{Sent, written}
 use Rattle.dss_frame.specs.declared.DssFrame.{DssFrame}
 use Rattle.dss_writer.specs.declared.DssWriter.{DssWriter}
 use Rattle.dss_writer.specs.declared.Wrote.{Wrote}
 use Rattle.dss_writer.specs.declared.Wrote.the-variants.{Done}
-use Rattle.dss_reader.specs.Reader.{standsAt}
+use Rattle.dss_take.specs.Take.{roomRead}
+use Rattle.dss_reader.specs.Reader.{standsAt, given}
 use Rattle.dss_reader.specs.declared.FrameRead.{FrameRead}
 use Rattle.dss_reader.specs.declared.FrameRead.the-variants.{Frame as Hands, Refused as NotRead}
-use Rattle.gateway_words.specs.Words.{refusalWords, doneWords}
+use Rattle.gateway_words.specs.Words.{refusalWords, doneWords, Answered}
+use Rattle.gateway_reader.specs.ReaderWords.{frameWords}
 use Rattle.gateway_row.specs.RecordBack.{eights}
 use Rattle.layouts.specs.DssLayout.{Structure, Dss}
 use Rattle.demands.specs.Demands.{Item, good, spoilt, run, bytesOf}
@@ -129,15 +131,23 @@ pub record LaidInWords (w : Structure) (fill : ℕ) (words after : List ℕ) : T
   pub words-say : take 8 words ≡ doneWords (w .correlation) mark 0 0
   pub laid : Dss w (part after fill mark)
 
--- the difference "type 5": 3 with 5, at the head where the reading started
-abbrev pub typeFive : ℕ → Refused
-typeFive p = record { why = InvalidDssType 5; place = p }
-
 -- the answer is that refusal, number, place and values, and the room is as it was
 pub record RefusedAs (why : Refused) (room : List ℕ) (number : ℕ) (words after : List ℕ) : Type 0 where
   pub number-is : number ≡ numberOf (why .why)
   pub words-say : take 8 words ≡ refusalWords why
   pub room-is : after ≡ room
+
+-- ---- what a reading that isn't the port's would answer
+
+-- `next_frame` answers and leaves in the room what it would, were this what is read
+pub record AnsweredAs (s : List ℕ) (p : ℕ) (room : List ℕ) (read : Read) (r : FrameRead) (after : List ℕ) : Type 0 where
+  pub answer-is : r ≡ given s p (length room) read
+  pub room-is : after ≡ roomRead s room read
+
+-- the same in words
+pub record AnsweredInWordsAs (s : List ℕ) (p : ℕ) (room words : List ℕ) (read : Read) (number : ℕ) (after answer : List ℕ) : Type 0 where
+  pub answer-is : Answered (frameWords (given s p (length room) read)) words number answer
+  pub room-is : after ≡ roomRead s room read
 
 -- ---- all frames, in words
 

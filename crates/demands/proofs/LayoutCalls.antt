@@ -35,9 +35,9 @@ use Rattle.dss_reader.specs.declared.FrameRead.the-variants.{Frame as Hands, Re
 use Rattle.dss_reader.proofs.DssReader.next_frame.Reads as next-frame
 use Rattle.layouts.specs.DssLayout.{Structure, Allowed, Dss, FullLast}
 use Rattle.demands.specs.Layouts.{structureOf}
-use Rattle.demands.proofs.KeptMeaning.{StructureBack, notYet, typeFive}
+use Rattle.demands.proofs.KeptMeaning.{StructureBack, notYet}
 use Rattle.demands.proofs.WrittenLayout.{writes-layout}
-use Rattle.demands.proofs.LayoutReads.{reads-layout, refuses-five, waits-behind-full}
+use Rattle.demands.proofs.LayoutReads.{reads-layout, waits-behind-full}
 
 -- ---- the writer
 
@@ -89,9 +89,9 @@ write-dss-laid κs w d t chained same payload room after a p = between-laid w d 
 -- ---- the reader
 
 module _ (w : Structure) (b : List ℕ) (l : Dss w b) (room : List ℕ) (r : FrameRead) (after : List ℕ) (p : NextFrame b 0 room r after) where
-  pub layout-back : (FullLast l → ⊥) → (w .type ≡ 5 → ⊥) → length (w .payload) ≤ length room → StructureBack w b room r after
-  layout-back k ne h =
-      let x = reads-layout w b l k ne in
+  pub layout-back : (FullLast l → ⊥) → length (w .payload) ≤ length room → StructureBack w b room r after
+  layout-back k h =
+      let x = reads-layout w b l k in
       let g = x .read in
       let e : payloadOf b (g .segments) ≡ w .payload = x .says .payload in
       let fits : length (payloadOf b (g .segments)) ≤ length room = omega (arith, ap length e) in
@@ -106,16 +106,13 @@ module _ (w : Structure) (b : List ℕ) (l : Dss w b) (room : List ℕ) (r : Fra
         room-is = p .room-is ∙ ap (roomRead b room) (x .is) ∙ ap (laid room 0) e ∙ laid-fits room 0 (w .payload) (omega arith);
       }
 
-  -- the differences: 1 and 3, position and room as they were
+  -- the difference: 1, position and room as they were
   pub layout-not-whole : FullLast l → (r ≡ NotRead (notYet 0) (standsAt 0)) × (after ≡ room)
   layout-not-whole k = (p .answers ∙ ap (given b 0 (length room)) (waits-behind-full w b l k), p .room-is ∙ ap (roomRead b room) (waits-behind-full w b l k))
 
-  pub layout-five : (FullLast l → ⊥) → w .type ≡ 5 → (r ≡ NotRead (typeFive 0) (standsAt 0)) × (after ≡ room)
-  layout-five k e = (p .answers ∙ ap (given b 0 (length room)) (refuses-five w b l k e), p .room-is ∙ ap (roomRead b room) (refuses-five w b l k e))
-
 -- over the contract of `next_frame` itself
 pub next-frame-laid : (κs : Lfts 2) (reader : DssReader) (run room : RefT (List ℕ)) (r : FrameRead) (after : List ℕ) (w : Structure) (l : Dss w (run .now))
-    → reader ≡ standsAt 0 → (FullLast l → ⊥) → (w .type ≡ 5 → ⊥) → length (w .payload) ≤ length (room .now)
+    → reader ≡ standsAt 0 → (FullLast l → ⊥) → length (w .payload) ≤ length (room .now)
     → next-frame.Post κs (reader, (run, (room, tt))) r (reader, (run, (at-last room after, tt))) → StructureBack w (run .now) (room .now) r after
-next-frame-laid κs reader run room r after w l e k ne h p =
-    layout-back w (run .now) l (room .now) r after (subst (λ (d : DssReader). NextFrame (run .now) (d .position) (room .now) r after) e p) k ne h
+next-frame-laid κs reader run room r after w l e k h p =
+    layout-back w (run .now) l (room .now) r after (subst (λ (d : DssReader). NextFrame (run .now) (d .position) (room .now) r after) e p) k h

@@ -25,12 +25,12 @@ use Rattle.dss_frame.specs.Reading.{Read, Frame, frame, refused, readAt, absorb
 use Rattle.dss_frame.specs.Written.{Sent, headOf, chunks, written}
 use Rattle.dss_laws.specs.Writing.{written-single, written-several}
 use Rattle.layouts.specs.DssLayout.{Structure, Allowed, ends, Dss, one, several, EndsFull, FullLast, rest}
-use Rattle.demands.specs.Layouts.{structureOf, WritesLayout, ReadAs, ReadsLayout, ReadsFullLast, WaitsBehindFull, RefusesFive, LayoutFixes, NoLayout}
+use Rattle.demands.specs.Layouts.{structureOf, WritesLayout, ReadAs, ReadsLayout, ReadsFullLast, WaitsBehindFull, LayoutFixes, NoLayout}
 use Rattle.demands.proofs.Mending.{octets-same}
 use Rattle.demands.proofs.Impostors.{empty, sendable, frame-refused, same-frame}
 use Rattle.demands.proofs.WrittenLayout.{allowed-sent, writes-layout}
 use Rattle.demands.proofs.FaithfulLayout.{allowed-in, told-at}
-use Rattle.demands.proofs.LayoutReads.{reads-layout, reads-full-last, refuses-five, waits-behind-full}
+use Rattle.demands.proofs.LayoutReads.{reads-layout, reads-full-last, waits-behind-full}
 
 -- ---- structures that meet the premises
 
@@ -67,17 +67,17 @@ asked-laid = one (asking-allowed true) (omega arith)
 
 pub asked-reads : ReadAs (readAt Reader) (asking true) asked
 unfolding FullLast asked-laid
-asked-reads = reads-layout (asking true) asked asked-laid (λ k. k) (λ e. omega arith)
+asked-reads = reads-layout (asking true) asked asked-laid (λ k. k)
 
--- a request that wants no reply: `0006D0050007`, document 01's P4
+-- a request that wants no reply: `0006D0050007`
 abbrev pub noReply : Structure
 noReply = record { type = 5; chained = false; onError = false; same = false; correlation = 7; payload = [] }
 
-abbrev pub p4 : List ℕ
-p4 = 0x00 ∷ 0x06 ∷ 0xD0 ∷ 0x05 ∷ 0x00 ∷ 0x07 ∷ []
+abbrev pub unanswered : List ℕ
+unanswered = 0x00 ∷ 0x06 ∷ 0xD0 ∷ 0x05 ∷ 0x00 ∷ 0x07 ∷ []
 
-unfoldable pub five-laid : Dss noReply p4
-five-laid =
+unfoldable pub no-reply-laid : Dss noReply unanswered
+no-reply-laid =
     one
     (record {
       type = (omega arith, omega arith);
@@ -88,9 +88,9 @@ five-laid =
     })
     (omega arith)
 
-pub five-refused : readAt Reader p4 0 ≡ refused (record { why = InvalidDssType 5; place = 0 })
-unfolding FullLast five-laid
-five-refused = refuses-five noReply p4 five-laid (λ k. k) refl
+pub no-reply-reads : ReadAs (readAt Reader) noReply unanswered
+unfolding FullLast no-reply-laid
+no-reply-reads = reads-layout noReply unanswered no-reply-laid (λ k. k)
 
 -- ---- a full last chunk
 
@@ -139,7 +139,7 @@ filled n h =
 
 -- a last chunk of one byte is read, and a full one is waited behind
 pub two-chunks-read : ReadAs (readAt Reader) (object (filling 32761 ++ filling 1)) (twoChunks (filling 32761) (filling 1))
-two-chunks-read = let c = filled 1 (omega arith) in reads-layout _ _ (c .laid) (λ e. omega (arith, c .short e, filling-length 1)) (λ e. omega arith)
+two-chunks-read = let c = filled 1 (omega arith) in reads-layout _ _ (c .laid) (λ e. omega (arith, c .short e, filling-length 1))
 
 pub full-waits : readAt Reader (twoChunks (filling 32761) (filling 32765)) 0 ≡ refused (record { why = Incomplete; place = 0 })
 full-waits = let c = filled 32765 (omega arith) in waits-behind-full _ _ (c .laid) (c .full (omega (arith, filling-length 32765)))
@@ -148,7 +148,7 @@ full-waits = let c = filled 32765 (omega arith) in waits-behind-full _ _ (c .lai
 
 -- under salvage's rules the full one is read
 pub full-read : ReadAs (readAt Salvage) (object (filling 32761 ++ filling 32765)) (twoChunks (filling 32761) (filling 32765))
-full-read = let c = filled 32765 (omega arith) in reads-full-last _ _ (c .laid) (λ e. omega arith)
+full-read = let c = filled 32765 (omega arith) in reads-full-last _ _ (c .laid)
 
 -- ---- what is no structure of the volume
 
@@ -260,7 +260,7 @@ no-fixed-layout b all =
 -- a reader that refuses everything, one that answers one thing, and one that forgets continue on error
 pub no-layout-refuser : (r : List ℕ → ℕ → Refused) → ReadsLayout (λ s p. refused (r s p)) → ⊥
 unfolding FullLast asked-laid
-no-layout-refuser r back = let b = back (asking true) asked asked-laid (λ k. k) (λ e. omega arith) in frame-refused (refused (r asked 0)) (b .read) (r asked 0) (b .is) refl
+no-layout-refuser r back = let b = back (asking true) asked asked-laid (λ k. k) in frame-refused (refused (r asked 0)) (b .read) (r asked 0) (b .is) refl
 
 quiet : Dss (asking false) (0x00 ∷ 0x07 ∷ 0xD0 ∷ 0x51 ∷ 0x12 ∷ 0x34 ∷ 0xC1 ∷ [])
 quiet = one (asking-allowed false) (omega arith)
@@ -268,8 +268,8 @@ quiet = one (asking-allowed false) (omega arith)
 pub no-layout-fixed : (x : Read) → ReadsLayout (λ s p. x) → ⊥
 unfolding FullLast asked-laid quiet
 no-layout-fixed x back =
-    let a = back (asking true) asked asked-laid (λ k. k) (λ e. omega arith) in
-    let b = back (asking false) _ quiet (λ k. k) (λ e. omega arith) in
+    let a = back (asking true) asked asked-laid (λ k. k) in
+    let b = back (asking false) _ quiet (λ k. k) in
     let e : a .read ≡ b .read = same-frame x (a .read) (b .read) (a .is) (b .is) in
     true-false (a .read .head .flags .«continue_on_error») (a .says .on-error) (ap (λ (g : Frame). g .head .flags .«continue_on_error») e ∙ b .says .on-error)
 
@@ -293,10 +293,10 @@ forgotten (frame h) g e = ap (λ (k : Frame). k .head .flags .«continue_on_erro
 pub no-forgetting : (reads : List ℕ → ℕ → Read) → ReadsLayout (λ s p. forgets (reads s p)) → ⊥
 unfolding FullLast asked-laid
 no-forgetting reads back =
-    let a = back (asking true) asked asked-laid (λ k. k) (λ e. omega arith) in
+    let a = back (asking true) asked asked-laid (λ k. k) in
     true-false (a .read .head .flags .«continue_on_error») (a .says .on-error) (forgotten (reads asked 0) (a .read) (a .is))
 
--- a reader that always hands out a frame: it neither waits nor refuses
+-- a reader that always hands out a frame: it doesn't wait
 pub no-waiting : (g : List ℕ → ℕ → Frame) → WaitsBehindFull (λ s p. frame (g s p)) → ⊥
 no-waiting g waits =
     let c = filled 32765 (omega arith) in
@@ -307,13 +307,15 @@ no-waiting g waits =
 pub no-both-layouts : (reads : List ℕ → ℕ → Read) → WaitsBehindFull reads → ReadsFullLast reads → ⊥
 no-both-layouts reads waits back =
     let c = filled 32765 (omega arith) in
-    let r = back _ _ (c .laid) (λ e. omega arith) in
+    let r = back _ _ (c .laid) in
     let b : List ℕ = twoChunks (filling 32761) (filling 32765) in
     frame-refused (reads b 0) (r .read) (record { why = Incomplete; place = 0 }) (r .is) (waits _ _ (c .laid) (c .full (omega (arith, filling-length 32765))))
 
-pub no-refusing : (g : List ℕ → ℕ → Frame) → RefusesFive (λ s p. frame (g s p)) → ⊥
-unfolding FullLast five-laid
-no-refusing g five = frame-refused (frame (g p4 0)) (g p4 0) (record { why = InvalidDssType 5; place = 0 }) refl (five noReply p4 five-laid (λ k. k) refl)
+-- a reader of four types
+pub no-four-types : (reads : List ℕ → ℕ → Read) → reads unanswered 0 ≡ refused (record { why = InvalidDssType 5; place = 0 }) → ReadsLayout reads → ⊥
+unfolding FullLast no-reply-laid
+no-four-types reads e back =
+    let r = back noReply unanswered no-reply-laid (λ k. k) in frame-refused (reads unanswered 0) (r .read) (record { why = InvalidDssType 5; place = 0 }) (r .is) e
 
 -- a layout that all bytes have, and one without the bit of continue on error
 pub no-loose-layout : LayoutFixes (λ w b. Unit {0}) → ⊥

@@ -1,24 +1,22 @@
 -- Demand 2's clause on layouts, reading: bytes that have volume 3's layout of one structure are read as the layout says, unless
--- their last chunk is full, where the reader, as the Rust, waits for another and salvage doesn't, or their type is 5, which both refuse.
-use Prim.Native.Nat.{ℕ, zero, suc, _+_, _-_, _%_, _≤_, _<_}
+-- their last chunk is full, where the reader, as the Rust, waits for another and salvage doesn't.
+use Prim.Native.Nat.{ℕ, _+_, _-_, _≤_, _<_}
 use native.Mathlib.Omega.{arith}
 use mathlib.Core.Path.{_≡_, refl, sym, ap, ap₂, _∙_}
 use mathlib.Core.List.{List, [], _∷_, _++_, append-assoc, append-nil}
 use lib.Dec.{eqb}
-use lib.ListN.{length, getD, drop, length-append}
+use lib.ListN.{length, drop, length-append}
 use borrow.Author.Tests.{le-leb, le-ltb}
 use Rattle.wire.specs.Bytes.{be16, two}
 use Rattle.wire.specs.Laws.{pick-by, pick-yes, pick-no, two-back}
 use Rattle.wire.specs.Places.{here-first, here-length, piece-part, piece-next}
-use Rattle.answer.specs.declared.Refusal.the-variants.{InvalidDssType}
-use Rattle.dss_head.specs.Heads.{headAt, headWith, lengthOf, typeAt, typeByte}
-use Rattle.dss_head.specs.HeadLaws.{head-back, head-typed}
+use Rattle.dss_head.specs.Heads.{headAt, lengthOf, typeByte}
+use Rattle.dss_head.specs.Types.{type-known}
+use Rattle.dss_head.specs.HeadLaws.{head-back}
 use Rattle.dss_head.specs.declared.DssHeader.{DssHeader}
 use Rattle.dss_head.specs.declared.DssType.{DssType}
-use Rattle.dss_head.specs.declared.DssType.the-variants.{Request, Reply, Object, Communication}
 use Rattle.dss_head.specs.declared.HeadFound.{HeadFound}
-use Rattle.dss_head.specs.declared.HeadFound.the-variants.{Head, Refused as Refuses}
-use Rattle.dss_head.specs.declared.TypeFound.the-variants.{Refused as NoType}
+use Rattle.dss_head.specs.declared.HeadFound.the-variants.{Head}
 use Rattle.dss_frame.specs.Rules.{chunkUnder}
 use Rattle.dss_frame.specs.declared.Rules.{Rules}
 use Rattle.dss_frame.specs.declared.Rules.the-variants.{Reader, Salvage}
@@ -29,8 +27,8 @@ use Rattle.dss_laws.specs.Continuations.{continuations-short, continuations-las
 use Rattle.dss_laws.specs.Framed.{Framed, single, WholeUnder, segmentsOf, framed-walk, walk-several}
 use Rattle.dss_laws.specs.Looks.{look-nothing, absorb-finished}
 use Rattle.layouts.specs.DssLayout.{Structure, Continued, ends, goes-on, EndsFull, Dss, one, several, FullLast, rest}
-use Rattle.demands.specs.Layouts.{ReadAs, ReadsLayout, ReadsFullLast, WaitsBehindFull, RefusesFive}
-use Rattle.demands.proofs.FaithfulLayout.{allowed-in, told-at}
+use Rattle.demands.specs.Layouts.{ReadAs, ReadsLayout, ReadsFullLast, WaitsBehindFull}
+use Rattle.demands.proofs.FaithfulLayout.{allowed-in}
 use Rattle.demands.proofs.WrittenLayout.{headIn, head-bytes}
 
 -- ---- the walk over the chunks
@@ -183,15 +181,6 @@ laid Salvage {w} (several a b more bytes e h c) k = several-laid Salvage w b mor
 
 -- ---- its head
 
--- a type other than 5 is one that the reader knows
-known : (n : ℕ) → 1 ≤ n → n ≤ 5 → (n ≡ 5 → ⊥) → record { type : DssType; is : typeByte type ≡ n }
-known zero lo hi ne = absurd (omega arith)
-known (suc zero) lo hi ne = record { type = Request; is = refl }
-known (suc (suc zero)) lo hi ne = record { type = Reply; is = refl }
-known (suc (suc (suc zero))) lo hi ne = record { type = Object; is = refl }
-known (suc (suc (suc (suc zero)))) lo hi ne = record { type = Communication; is = refl }
-known (suc (suc (suc (suc (suc n))))) lo hi ne = absurd (ne (omega arith))
-
 head-sent : (w : Structure) (t : DssType) (n : ℕ) (x : List ℕ) → typeByte t ≡ w .type → n < 65536 → w .correlation < 65536
     → headAt (two n ++ (rest w ++ x)) 0 ≡ Head (headIn w t (lengthOf n))
 head-sent w t n x e h v = ap (λ (s : List ℕ). headAt s 0) (head-bytes w t n x e) ∙ head-back (headIn w t n) x h v
@@ -199,16 +188,6 @@ head-sent w t n x e h v = ap (λ (s : List ℕ). headAt s 0) (head-bytes w t n x
 head-laid : {w : Structure} {s : List ℕ} → Dss w s → (t : DssType) → typeByte t ≡ w .type → record { length : ℕ; is : headAt s 0 ≡ Head (headIn w t length) }
 head-laid {w} (one a h) t e = record { length = _; is = head-sent w t (length (w .payload) + 6) (w .payload) e (omega arith) (a .correlation) }
 head-laid {w} (several a b more bytes k h c) t e = record { length = _; is = head-sent w t 0xFFFF (b ++ bytes) e (omega arith) (a .correlation) }
-
-magic-at : {w : Structure} {s : List ℕ} → Dss w s → getD s 2 0 ≡ 0xD0
-magic-at (one a h) = refl
-magic-at (several a b more bytes e h c) = refl
-
-five : (b : ℕ) → b % 16 ≡ 5 → typeAt b 0 ≡ NoType (record { why = InvalidDssType 5; place = 0 })
-five b e = rw e
-
-head-five : {w : Structure} {s : List ℕ} → Dss w s → 6 ≤ length s → w .type ≡ 5 → headAt s 0 ≡ Refuses (record { why = InvalidDssType 5; place = 0 })
-head-five {w} {s} l h e = head-typed s 0 (omega arith) (magic-at l) ∙ ap (headWith s 0) (five (getD s 3 0) (told-at l .type ∙ e))
 
 -- ---- the reading
 
@@ -224,10 +203,10 @@ reads-frame rules s h gs l e =
     ∙ pick-by (λ (x : Read). x ≡ frame (record { head = h; segments = gs })) (eqb (be16 s 0) 0xFFFF) _ _ (λ k. refl)
     (λ k. absorb-finished rules s 0 h gs (look-nothing rules s (endOf 0 gs) (omega arith) _ _))
 
-reads-under : (rules : Rules) (w : Structure) (s : List ℕ) (l : Dss w s) → Wholly rules l → (w .type ≡ 5 → ⊥) → ReadAs (readAt rules) w s
-reads-under rules w s l k ne =
+reads-under : (rules : Rules) (w : Structure) (s : List ℕ) (l : Dss w s) → Wholly rules l → ReadAs (readAt rules) w s
+reads-under rules w s l k =
     let a = allowed-in l in
-    let t = known (w .type) (a .type .0) (a .type .1) ne in
+    let t = type-known (w .type) (a .type .0) (a .type .1) in
     let h = head-laid l (t .type) (t .is) in
     let g = laid rules l k in
     record {
@@ -243,11 +222,7 @@ pub reads-layout : ReadsLayout (readAt Reader)
 reads-layout = reads-under Reader
 
 pub reads-full-last : ReadsFullLast (readAt Salvage)
-reads-full-last w s l ne = reads-under Salvage w s l tt ne
-
-pub refuses-five : RefusesFive (readAt Reader)
-refuses-five w s l k e =
-    let g = laid Reader l k in reads-walk Reader s (g .segments) (Refuses (record { why = InvalidDssType 5; place = 0 })) (g .is) (head-five l (g .six .1) e)
+reads-full-last w s l = reads-under Salvage w s l tt
 
 pub waits-behind-full : WaitsBehindFull (readAt Reader)
 unfolding FullLast readAt

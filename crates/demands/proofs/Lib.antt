@@ -15,6 +15,7 @@ pub mod AllFramesBack
 pub mod AllFramesExample
 pub mod LongerRuns
 pub mod LongerLooks
+pub mod FourTypes
 pub mod Longer
 pub mod LongerTaken
 pub mod LongerCalls
@@ -37,6 +38,7 @@ pub mod FullRun
 pub mod KeptLayouts
 pub mod DeadCalls
 pub mod AsReadCalls
+pub mod FourTypesCalls
 pub mod Kept
 pub mod KeptExamples
 pub mod DeadExamples

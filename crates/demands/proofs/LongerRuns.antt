@@ -1,5 +1,5 @@
 -- What stands inside a run stands there over a longer run too: parts, payloads, heads, and the walk over a frame's segments.
-use Prim.Native.Nat.{ℕ, zero, suc, _+_, _-_, _/_, _%_, _≤_, _<_}
+use Prim.Native.Nat.{ℕ, zero, suc, _+_, _-_, _/_, _≤_, _<_}
 use native.Mathlib.Omega.{arith}
 use native.Mathlib.Decide.{decLe}
 use mathlib.Core.Path.{_≡_, refl, sym, ap, ap₂, subst, _∙_}
@@ -14,6 +14,7 @@ use Rattle.wire.specs.Bytes.{pick, be16, part}
 use Rattle.wire.specs.Laws.{pick-by, pick-yes, pick-no, be16-front, part-front}
 use Rattle.answer.specs.declared.Refused.{Refused}
 use Rattle.dss_head.specs.Heads.{headAt, headWith, typeAt}
+use Rattle.dss_head.specs.Types.{type-by}
 use Rattle.dss_head.specs.declared.Chunk.{Chunk}
 use Rattle.dss_head.specs.declared.Chunk.the-variants.{Dead, Last, Full}
 use Rattle.dss_head.specs.declared.DssHeader.{DssHeader}
@@ -83,11 +84,7 @@ pub data HeadSays (q : ℕ) : HeadFound → Type 0 where
 
 type-says : (s : List ℕ) (q b : ℕ) → HeadSays q (headWith s q (typeAt b q))
 type-says s q b =
-    let says : TypeFound → Type 0 = λ x. HeadSays q (headWith s q x) in
-    pick-by says (eqb (b % 16) 1) _ _ (λ e. finds _)
-    (λ e. pick-by says (eqb (b % 16) 2) _ _ (λ e₁. finds _)
-    (λ e₁. pick-by says (eqb (b % 16) 3) _ _ (λ e₂. finds _)
-    (λ e₂. pick-by says (eqb (b % 16) 4) _ _ (λ e₃. finds _) (λ e₃. refuses-head _ (inr (inl refl)) refl))))
+    type-by (λ (x : TypeFound). HeadSays q (headWith s q x)) b q (λ t _. finds _) (λ _. refuses-head _ (inr (inl refl)) refl)
 
 pub head-says : (s : List ℕ) (q : ℕ) → 6 ≤ length s - q → HeadSays q (headAt s q)
 head-says s q l =

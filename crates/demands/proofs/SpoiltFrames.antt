@@ -1,19 +1,26 @@
 -- A spoilt frame is framed as before, and its head is refused wherever it stands.
-use Prim.Native.Nat.{ℕ, _+_, _*_, _<_}
+use Prim.Native.Nat.{ℕ, _+_, _*_, _-_, _≤_, _<_}
 use native.Mathlib.Omega.{arith}
-use mathlib.Core.Path.{_≡_, ap, _∙_}
+use mathlib.Core.Path.{_≡_, refl, ap, _∙_}
 use mathlib.Core.Logic.{inl, inr}
-use mathlib.Core.List.{List, _++_}
-use lib.ListN.{length, drop}
+use mathlib.Core.List.{List, [], _∷_, _++_}
+use lib.Dec.{eqb}
+use lib.ListN.{length, getD, drop}
+use borrow.Author.Tests.{eqb-true, eqb-false}
 use Rattle.wire.specs.Bytes.{be16}
-use Rattle.wire.specs.Laws.{be16-same}
-use Rattle.dss_head.specs.Heads.{headAt}
-use Rattle.dss_head.specs.declared.HeadFound.the-variants.{Refused as Refuses}
+use Rattle.wire.specs.Laws.{by, be16-same}
+use Rattle.answer.specs.declared.Refused.{Refused}
+use Rattle.dss_head.specs.Heads.{headAt, headWith}
+use Rattle.dss_head.specs.Types.{type-none}
+use Rattle.dss_head.specs.declared.DssHeader.{DssHeader}
+use Rattle.dss_head.specs.declared.HeadFound.the-variants.{Head, Refused as Refuses}
 use Rattle.dss_frame.specs.Written.{Sent, written}
+use Rattle.dss_measure.specs.Glance.{headed}
 use Rattle.demands.specs.Demands.{Spoilt, LengthField}
+use Rattle.demands.specs.NoReply.{SpoiltHead, RefusesSpoilt}
 use Rattle.dss_laws.specs.Framed.{Framed, single, several}
 use Rattle.dss_laws.specs.Writing.{framed-written}
-use Rattle.dss_head.specs.HeadLaws.{movedTo}
+use Rattle.dss_head.specs.HeadLaws.{movedTo, head-magic, head-typed}
 use Rattle.dss_laws.specs.HeadLaws.{head-moved}
 use Rattle.demands.proofs.WrittenFrames.{framed-six}
 
@@ -41,3 +48,35 @@ framed-spoilt f b x = framed-kept f b x (framed-written f)
 
 pub head-spoilt : (f : Sent) (b : List ℕ) (x : Spoilt written f b) (s rest : List ℕ) (p : ℕ) → drop p s ≡ b ++ rest → headAt s p ≡ Refuses (record { why = x .reason .why; place = p })
 head-spoilt f b x s rest p d = head-moved s b rest p d (framed-six (framed-spoilt f b x)) ∙ ap (movedTo p) (x .head-refused)
+
+found-refused : (h : DssHeader) (r : Refused) → Head h ≡ Refuses r → ⊥
+found-refused h r e = let z : _≡_ {A = ℕ} 0 1 = cc in omega arith
+
+-- ---- W-210, "demand 3's spoilt type is outside 1 to 5": what makes a head be refused
+
+pub refuses-spoilt : RefusesSpoilt headAt
+refuses-spoilt b six = (there, back)
+  where
+    left : 6 ≤ length b - 0
+    left = omega arith
+
+    there : record { reason : Refused; is : headAt b 0 ≡ Refuses reason } → SpoiltHead b
+    there x =
+        by (eqb (getD b 2 0) 0xD0)
+        (λ u. inr (λ l h. let w = headed b 0 left (eqb-true (getD b 2 0) 0xD0 u) l h in found-refused (w .head) (x .reason) (w .found ∙ x .is)))
+        (λ u. inl (eqb-false (getD b 2 0) 0xD0 u))
+
+    back : SpoiltHead b → record { reason : Refused; is : headAt b 0 ≡ Refuses reason }
+    back (inl n) = record { reason = _; is = head-magic b 0 left n }
+    back (inr n) =
+        by (eqb (getD b 2 0) 0xD0)
+        (λ u. record { reason = _; is = head-typed b 0 left (eqb-true (getD b 2 0) 0xD0 u) ∙ ap (headWith b 0) (type-none (getD b 3 0) 0 n) })
+        (λ u. record { reason = _; is = head-magic b 0 left (eqb-false (getD b 2 0) 0xD0 u) })
+
+-- a type of 6 is spoilt, and a type of 5 isn't: such a head is refused, and such a one isn't
+spoilt-met : record { reason : Refused; is : headAt (0 ∷ 6 ∷ 0xD0 ∷ 6 ∷ 0 ∷ 1 ∷ []) 0 ≡ Refuses reason }
+spoilt-met = refuses-spoilt (0 ∷ 6 ∷ 0xD0 ∷ 6 ∷ 0 ∷ 1 ∷ []) (omega arith) .1 (inr (λ l h. omega arith))
+
+five-unspoilt : SpoiltHead (0 ∷ 6 ∷ 0xD0 ∷ 5 ∷ 0 ∷ 1 ∷ []) → ⊥
+five-unspoilt (inl n) = n refl
+five-unspoilt (inr n) = n (omega arith) (omega arith)

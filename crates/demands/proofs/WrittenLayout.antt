@@ -11,11 +11,10 @@ use lib.Seq.{length-take-le}
 use Rattle.wire.specs.Bytes.{two}
 use Rattle.wire.specs.Laws.{true-false}
 use Rattle.dss_head.specs.Heads.{headBytes, typeByte, flagsByte}
-use Rattle.dss_head.specs.HeadLaws.{type-most}
+use Rattle.dss_head.specs.Types.{type-range}
 use Rattle.dss_head.specs.declared.DssFlags.{DssFlags}
 use Rattle.dss_head.specs.declared.DssHeader.{DssHeader}
 use Rattle.dss_head.specs.declared.DssType.{DssType}
-use Rattle.dss_head.specs.declared.DssType.the-variants.{Request, Reply, Object, Communication}
 use Rattle.dss_frame.specs.Written.{Sent, chunks, written}
 use Rattle.layouts.specs.DssLayout.{Structure, Allowed, Continued, ends, goes-on, Dss, one, several, format, rest}
 use Rattle.demands.specs.Demands.{Sendable}
@@ -25,17 +24,11 @@ use Rattle.dss_laws.specs.Writing.{Cut, cut, cut-of, written-single, written-se
 
 -- ---- what may be asked for
 
-type-least : (t : DssType) → 1 ≤ typeByte t
-type-least Request = omega arith
-type-least Reply = omega arith
-type-least Object = omega arith
-type-least Communication = omega arith
-
 -- of a frame that can be sent the volume allows what has same correlation only when chained, and nothing else
 pub allowed-sent : (f : Sent) → Sendable f → (f .same ≡ true → f .chained ≡ true) → Allowed (structureOf f)
 allowed-sent f v k =
     record {
-      type = (type-least (f .type), omega (arith, type-most (f .type)));
+      type = type-range (f .type);
       correlation = v .correlation;
       payload = v .payload;
       on-error = λ e. absurd (true-false false e refl);

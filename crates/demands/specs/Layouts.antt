@@ -6,7 +6,7 @@ use mathlib.Core.Path.{_≡_}
 use mathlib.Core.Bool.{false}
 use mathlib.Core.List.{List}
 use lib.ListN.{length}
-use Rattle.answer.specs.declared.Refusal.the-variants.{Incomplete, InvalidDssType}
+use Rattle.answer.specs.declared.Refusal.the-variants.{Incomplete}
 use Rattle.dss_head.specs.Heads.{typeByte}
 use Rattle.dss_frame.specs.Segments.{payloadOf, endOf}
 use Rattle.dss_frame.specs.Reading.{frame, refused, Frame}
@@ -38,21 +38,18 @@ pub record ReadAs (reads : Reader) (w : Structure) (b : List ℕ) : Type 0 where
   pub says : Says w b read
   pub consumed : endOf 0 (read .segments) ≡ length b
 
--- What has the layout is read as it says, but for two differences of the reader's: a full last chunk, and type 5.
+-- What has the layout is read as it says, of each of the volume's five types, but for one difference of the reader's: a full last
+-- chunk.
 abbrev pub ReadsLayout : Reader → Type 0
-ReadsLayout reads = (w : Structure) (b : List ℕ) (l : Dss w b) → (FullLast l → ⊥) → (w .type ≡ 5 → ⊥) → ReadAs reads w b
+ReadsLayout reads = (w : Structure) (b : List ℕ) (l : Dss w b) → (FullLast l → ⊥) → ReadAs reads w b
 
--- The first difference, "a full last chunk": the reader waits for another, and alone it isn't whole.
+-- The difference, "a full last chunk": the reader waits for another, and alone it isn't whole.
 abbrev pub WaitsBehindFull : Reader → Type 0
 WaitsBehindFull reads = (w : Structure) (b : List ℕ) (l : Dss w b) → FullLast l → reads b 0 ≡ refused (record { why = Incomplete; place = 0 })
 
--- W-205, "0x7FFF is a full last chunk": under salvage's rules the first difference is gone, and type 5 is the only one.
+-- W-205, "0x7FFF is a full last chunk": under salvage's rules the difference is gone, and all that has the layout is read.
 abbrev pub ReadsFullLast : Reader → Type 0
-ReadsFullLast reads = (w : Structure) (b : List ℕ) (l : Dss w b) → (w .type ≡ 5 → ⊥) → ReadAs reads w b
-
--- The second difference, "type 5": refused, 3 with 5, at its head.
-abbrev pub RefusesFive : Reader → Type 0
-RefusesFive reads = (w : Structure) (b : List ℕ) (l : Dss w b) → (FullLast l → ⊥) → w .type ≡ 5 → reads b 0 ≡ refused (record { why = InvalidDssType 5; place = 0 })
+ReadsFullLast reads = (w : Structure) (b : List ℕ) → Dss w b → ReadAs reads w b
 
 -- A layout fixes its frame: bytes that are laid out for two structures are laid out for equal ones.
 abbrev pub LayoutFixes : (Structure → List ℕ → Type 0) → Type 0

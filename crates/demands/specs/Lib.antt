@@ -3,6 +3,8 @@ pub mod Layouts
 pub mod Table
 pub mod Edges
 pub mod AllFrames
+pub mod FourTypes
+pub mod NoReply
 pub mod AsRead
 pub mod Longer
 pub mod Mending

@@ -1,4 +1,4 @@
--- Document 01, "Proved cases (hex)": P1 to P16 as one table, with one theorem.
+-- Document 01, "Proved cases (hex)": P1 to P16 as one table, with one theorem. W-210: "Cases P4 and P7 become type 6."
 use Prim.Native.Nat.{ℕ, _+_}
 use mathlib.Core.Path.{_≡_, refl}
 use mathlib.Core.Bool.{Bool, true, false}
@@ -128,10 +128,10 @@ table =
     record { p = 1; asks = reads []; gives = one (refused 1 [] 0) 0 }
     ∷ record { p = 2; asks = reads p2; gives = one (frame (plain Reply 7 6 [] 1)) 6 }
     ∷ record { p = 3; asks = reads (0x00 ∷ 0x06 ∷ 0xD1 ∷ 0x02 ∷ 0x00 ∷ 0x07 ∷ []); gives = one (refused 2 (209 ∷ []) 0) 0 }
-    ∷ record { p = 4; asks = reads (0x00 ∷ 0x06 ∷ 0xD0 ∷ 0x05 ∷ 0x00 ∷ 0x07 ∷ []); gives = one (refused 3 (5 ∷ []) 0) 0 }
+    ∷ record { p = 4; asks = reads (0x00 ∷ 0x06 ∷ 0xD0 ∷ 0x06 ∷ 0x00 ∷ 0x07 ∷ []); gives = one (refused 3 (6 ∷ []) 0) 0 }
     ∷ record { p = 5; asks = reads (0x00 ∷ 0x05 ∷ 0xD0 ∷ 0x02 ∷ 0x00 ∷ 0x07 ∷ []); gives = one (refused 7 (5 ∷ []) 0) 0 }
     ∷ record { p = 6; asks = reads (0x00 ∷ 0x05 ∷ 0xD1 ∷ 0x02 ∷ 0x00 ∷ 0x07 ∷ []); gives = one (refused 2 (209 ∷ []) 0) 0 }
-    ∷ record { p = 7; asks = reads (0x00 ∷ 0x07 ∷ 0xD0 ∷ 0x05 ∷ 0x00 ∷ 0x07 ∷ []); gives = one (refused 1 [] 0) 0 }
+    ∷ record { p = 7; asks = reads (0x00 ∷ 0x07 ∷ 0xD0 ∷ 0x06 ∷ 0x00 ∷ 0x07 ∷ []); gives = one (refused 1 [] 0) 0 }
     ∷ record { p = 8; asks = reads p8; gives = one (refused 2 (0 ∷ []) 6) 6 }
     ∷ record { p = 8; asks = salvages p8; gives = record { out = frame (plain Reply 7 6 [] 1) ∷ refused 2 (0 ∷ []) 6 ∷ []; end = 6 } }
     ∷ record {

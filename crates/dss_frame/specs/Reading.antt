@@ -1,6 +1,6 @@
 -- Reading one frame: document 01, "Reading". The rules are the reader's or salvage's.
 use Prim.Native.Nat.{ℕ, zero, suc, _+_, _-_}
-use mathlib.Core.Bool.{Bool, true, false}
+use mathlib.Core.Bool.{Bool}
 use mathlib.Core.List.{List, [], _∷_, _++_}
 use lib.Dec.{ltb, leb, eqb}
 use lib.ListN.{length}
@@ -8,10 +8,10 @@ use Rattle.answer.specs.Numbers.{numberOf}
 use Rattle.answer.specs.Rooms.{outOfBounds}
 use Rattle.answer.specs.declared.Refusal.the-variants.{Incomplete, LengthTooShort, DeadContinuation}
 use Rattle.answer.specs.declared.Refused.{Refused}
-use Rattle.wire.specs.Bytes.{pick, and, be16, marker}
-use Rattle.dss_head.specs.Heads.{headAt}
+use Rattle.wire.specs.Bytes.{pick, and, or, be16, marker}
+use Rattle.dss_head.specs.Heads.{headAt, typeByte}
 use Rattle.dss_head.specs.declared.DssType.{DssType}
-use Rattle.dss_head.specs.declared.DssType.the-variants.{Request, Reply, Object, Communication}
+use Rattle.dss_head.specs.declared.DssType.the-variants.{Request, Reply, Object, NoReply}
 use Rattle.dss_head.specs.declared.DssHeader.{DssHeader}
 use Rattle.dss_head.specs.declared.HeadFound.{HeadFound}
 use Rattle.dss_head.specs.declared.HeadFound.the-variants.{Head, Refused as Refuses}
@@ -28,24 +28,14 @@ pub data Read : Type 0 where
   frame : Frame → Read
   refused : Refused → Read
 
--- "the type equals the first frame's, or is object after a first reply or request"
+-- types are equal where their numbers are
+abbrev pub sameType : DssType → DssType → Bool
+sameType t u = eqb (typeByte t) (typeByte u)
+
+-- "the type equals the first frame's, or is object after a first reply or request"; W-210: "an object may follow a first type 5
+-- as it follows a request"
 abbrev pub follows : DssType → DssType → Bool
-follows Request Request = true
-follows Request Reply = false
-follows Request Object = true
-follows Request Communication = false
-follows Reply Request = false
-follows Reply Reply = true
-follows Reply Object = true
-follows Reply Communication = false
-follows Object Request = false
-follows Object Reply = false
-follows Object Object = true
-follows Object Communication = false
-follows Communication Request = false
-follows Communication Reply = false
-follows Communication Object = false
-follows Communication Communication = true
+follows t next = or (sameType next t) (and (sameType next Object) (or (sameType t Reply) (or (sameType t Request) (sameType t NoReply))))
 
 -- "Length above 10, bytes 3 and 4 of its payload above 0x0100 as a number, and bytes 1 and 2 at most length - 2"
 abbrev pub ownObject : List ℕ → ℕ → Bool

@@ -13,18 +13,19 @@ use borrow.Author.Tests.{lt-ltb, le-ltb, ltb-true, ltb-false, eq-eqb, ne-eqb, eq
 use Rattle.wire.specs.Bytes.{pick, be16, laid}
 use Rattle.wire.specs.Laws.{pick-by, by, be16-same, two-back}
 use Rattle.wire.specs.Splice.{laid-fits, splice-tail}
-use Rattle.answer.specs.declared.Refusal.the-variants.{InvalidMagic, InvalidDssType, BufferTooShort}
+use Rattle.answer.specs.declared.Refusal.the-variants.{InvalidMagic, BufferTooShort}
 use Rattle.dss_head.specs.declared.DssType.{DssType}
-use Rattle.dss_head.specs.declared.DssType.the-variants.{Request, Reply, Object, Communication}
+use Rattle.dss_head.specs.declared.DssType.the-variants.{Reply}
 use Rattle.dss_head.specs.declared.DssFlags.{DssFlags}
 use Rattle.dss_head.specs.declared.DssHeader.{DssHeader}
 use Rattle.dss_head.specs.declared.TypeFound.{TypeFound}
-use Rattle.dss_head.specs.declared.TypeFound.the-variants.{Is, Refused as NoType}
+use Rattle.dss_head.specs.declared.TypeFound.the-variants.{Is}
 use Rattle.dss_head.specs.declared.HeadFound.{HeadFound}
 use Rattle.dss_head.specs.declared.HeadFound.the-variants.{Head, Refused as Refuses}
 use Rattle.dss_head.specs.declared.Chunk.{Chunk}
 use Rattle.dss_head.specs.declared.Chunk.the-variants.{Dead, Last, Full}
 use Rattle.dss_head.specs.Heads.{lengthOf, isFull, continuationLength, chunkOf, typeAt, typeByte, bit, flagsOf, flagsByte, headWith, headAt, headBytes}
+use Rattle.dss_head.specs.Types.{type-back, type-by, type-range, type-none}
 
 -- ---- lengths
 
@@ -79,26 +80,13 @@ high-bit-dropped b place =
     let z : (b + 128) / 0x10 ≡ b / 0x10 + 2 * 4 = omega arith in
     (rw t, rw (x, y, z, even (b / 0x40) 1, even (b / 0x20) 2, even (b / 0x10) 4))
 
--- the most that type and flags come to
+-- the most that flags come to
 flag-most : (set : Bool) (weight : ℕ) → pick set weight 0 ≤ weight
 flag-most true weight = omega arith
 flag-most false weight = omega arith
 
 pub flags-most : (f : DssFlags) → flagsByte f ≤ 0x70
 flags-most f = omega (arith, flag-most (f .chained) 0x40, flag-most (f .«continue_on_error») 0x20, flag-most (f .«same_correlation») 0x10)
-
-pub type-most : (t : DssType) → typeByte t ≤ 4
-type-most Request = omega arith
-type-most Reply = omega arith
-type-most Object = omega arith
-type-most Communication = omega arith
-
--- a type's number reads as that type
-type-back : (t : DssType) (b place : ℕ) → b % 16 ≡ typeByte t → typeAt b place ≡ Is t
-type-back Request b place e = rw e
-type-back Reply b place e = rw e
-type-back Object b place e = rw e
-type-back Communication b place e = rw e
 
 -- the flags are a number of sixteens
 sixteens : DssFlags → ℕ
@@ -117,7 +105,7 @@ bit-back true weight b q e = ap (λ (k : ℕ). eqb (k % 2) 1) e ∙ ap (λ (k : 
 bit-back false weight b q e = ap (λ (k : ℕ). eqb (k % 2) 1) e ∙ ap (λ (k : ℕ). eqb k 1) (even 0 q)
 
 -- flags read as they were written, whatever type stands below them
-flags-back : (f : DssFlags) (n : ℕ) → n ≤ 4 → flagsOf (n + flagsByte f) ≡ f
+flags-back : (f : DssFlags) (n : ℕ) → n < 16 → flagsOf (n + flagsByte f) ≡ f
 unfolding sixteens
 flags-back f n h =
     let b = n + flagsByte f in
@@ -140,8 +128,8 @@ flags-back f n h =
 -- a format byte says the type and the flags that it was made of
 pub format-back : (t : DssType) (f : DssFlags) (place : ℕ) → (typeAt (typeByte t + flagsByte f) place ≡ Is t) × (flagsOf (typeByte t + flagsByte f) ≡ f)
 format-back t f place = (
-  type-back t (typeByte t + flagsByte f) place (omega (arith, type-most t, flags-sixteens f)),
-  flags-back f (typeByte t) (type-most t),
+  type-back t (typeByte t + flagsByte f) place (omega (arith, type-range t, flags-sixteens f)),
+  flags-back f (typeByte t) (omega (arith, type-range t)),
 )
 
 -- ---- a head at a place, answer by answer
@@ -203,25 +191,14 @@ abbrev pub movedTo : ℕ → HeadFound → HeadFound
 movedTo p (Head h) = Head h
 movedTo p (Refuses r) = Refuses (record { why = r .why; place = p })
 
--- what holds of each type and of the refusal holds of what a byte says at two places
-type-by : (P : TypeFound → TypeFound → Type 0) (b p q : ℕ) → ((t : DssType) → P (Is t) (Is t))
-    → P (NoType (record { why = InvalidDssType (b % 16); place = p })) (NoType (record { why = InvalidDssType (b % 16); place = q }))
-    → P (typeAt b p) (typeAt b q)
-type-by P b p q f g =
-    both (eqb (b % 16) 1) (f Request) (both (eqb (b % 16) 2) (f Reply) (both (eqb (b % 16) 3) (f Object) (both (eqb (b % 16) 4) (f Communication) g)))
-  where
-    both : (t : Bool) {x y x′ y′ : TypeFound} → P x x′ → P y y′ → P (pick t x y) (pick t x′ y′)
-    both true a b = a
-    both false a b = b
-
 be16-drop : (s : List ℕ) (at i : ℕ) → be16 (drop at s) i ≡ be16 s (at + i)
 be16-drop s at i =
     be16-same (drop at s) s i (at + i) (getD-drop at s i 0) (getD-drop at s (i + 1) 0 ∙ ap (λ (k : ℕ). getD s k 0) (sym (add-assoc at i 1)))
 
 with-placed : (s : List ℕ) (at b : ℕ) → headWith s at (typeAt b at) ≡ movedTo at (headWith (drop at s) 0 (typeAt b 0))
 with-placed s at b =
-    type-by (λ (x y : TypeFound). headWith s at x ≡ movedTo at (headWith (drop at s) 0 y)) b at 0
-    (λ t. rw (be16-drop s at 0, be16-drop s at 4, getD-drop at s 3 0, add-zero at)) refl
+    type-by (λ (x : TypeFound). headWith s at x ≡ movedTo at (headWith (drop at s) 0 (typeAt b 0))) b at
+    (λ t e. rw (type-back t b 0 e, be16-drop s at 0, be16-drop s at 4, getD-drop at s 3 0, add-zero at)) (λ h. rw (type-none b 0 h))
 
 module _ (s : List ℕ) (at : ℕ) where
   placed-length : length (drop at s) - 0 ≡ length s - at

@@ -7,7 +7,7 @@ use lib.ListN.{length, getD}
 use Rattle.wire.specs.Bytes.{pick, or, be16, two}
 use Rattle.answer.specs.declared.Refusal.the-variants.{InvalidMagic, InvalidDssType, BufferTooShort}
 use Rattle.dss_head.specs.declared.DssType.{DssType}
-use Rattle.dss_head.specs.declared.DssType.the-variants.{Request, Reply, Object, Communication}
+use Rattle.dss_head.specs.declared.DssType.the-variants.{Request, Reply, Object, Communication, NoReply}
 use Rattle.dss_head.specs.declared.DssFlags.{DssFlags}
 use Rattle.dss_head.specs.declared.DssHeader.{DssHeader}
 use Rattle.dss_head.specs.declared.TypeFound.{TypeFound}
@@ -41,20 +41,23 @@ chunkOf raw =
 
 -- ---- the format byte
 
--- "low four bits the type (1 request, 2 reply, 3 object, 4 communication)"; "3: type not 1 to 4, the low four bits"
+-- "low four bits the type (1 request, 2 reply, 3 object, 4 communication)"; W-210: "the no-reply request DSS, type 5 of DRDA
+-- volume 3. The type reading accepts 1 to 5". 3 is any other, "the low four bits"
 abbrev pub typeAt : ℕ → ℕ → TypeFound
 typeAt format place =
     pick (eqb (format % 16) 1) (Is Request)
     (pick (eqb (format % 16) 2) (Is Reply)
     (pick (eqb (format % 16) 3) (Is Object)
     (pick (eqb (format % 16) 4) (Is Communication)
-    (NoType (record { why = InvalidDssType (format % 16); place = place })))))
+    (pick (eqb (format % 16) 5) (Is NoReply)
+    (NoType (record { why = InvalidDssType (format % 16); place = place }))))))
 
 abbrev pub typeByte : DssType → ℕ
 typeByte Request = 1
 typeByte Reply = 2
 typeByte Object = 3
 typeByte Communication = 4
+typeByte NoReply = 5
 
 -- whether the bit of that weight is set
 abbrev pub bit : ℕ → ℕ → Bool

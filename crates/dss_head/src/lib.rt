@@ -12,12 +12,16 @@ pub const DSS_MAGIC: u8 = 0xD0;
 pub const DSS_HEADER_LEN: usize = 6;
 // The most bytes that one segment has.
 pub const DSS_MAX_SEGMENT_LEN: u16 = 32767;
+// The numbers of the types go from 1 to this one.
+pub const DSS_LAST_TYPE: u8 = 5;
 
 pub enum DssType {
     Request,
     Reply,
     Object,
     Communication,
+    // A request that wants no reply.
+    NoReply,
 }
 
 pub struct DssFlags {
@@ -110,6 +114,7 @@ impl DssType {
             2 => TypeFound::Is(DssType::Reply),
             3 => TypeFound::Is(DssType::Object),
             4 => TypeFound::Is(DssType::Communication),
+            5 => TypeFound::Is(DssType::NoReply),
             _ => {
                 let why = Refusal::InvalidDssType(low);
                 TypeFound::Refused(Refused { why, place: 0 })
@@ -125,6 +130,7 @@ impl DssType {
             DssType::Reply => 2,
             DssType::Object => 3,
             DssType::Communication => 4,
+            DssType::NoReply => 5,
         }
     }
 }

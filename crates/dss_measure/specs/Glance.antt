@@ -7,13 +7,12 @@ use mathlib.Core.Bool.{Bool, false}
 use mathlib.Core.List.{List, [], _∷_}
 use lib.Dec.{eqb}
 use lib.ListN.{length, getD}
-use borrow.Author.Tests.{eqb-false}
 use Rattle.wire.specs.Bytes.{be16, part}
-use Rattle.wire.specs.Laws.{by, pick-by, pick-yes, pick-no, part-length}
+use Rattle.wire.specs.Laws.{by, pick-yes, pick-no, part-length}
 use Rattle.dss_head.specs.Heads.{lengthOf, typeAt, bit, flagsOf, headWith, headAt}
+use Rattle.dss_head.specs.Types.{lastType, type-by}
 use Rattle.dss_head.specs.HeadLaws.{head-typed}
 use Rattle.dss_head.specs.declared.DssType.{DssType}
-use Rattle.dss_head.specs.declared.DssType.the-variants.{Request, Reply, Object, Communication}
 use Rattle.dss_head.specs.declared.DssFlags.{DssFlags}
 use Rattle.dss_head.specs.declared.DssHeader.{DssHeader}
 use Rattle.dss_head.specs.declared.TypeFound.{TypeFound}
@@ -39,7 +38,7 @@ pub record Headed (s : List ℕ) (q : ℕ) : Type 0 where
   pub found : Head head ≡ headAt s q
   pub flagged : head .flags ≡ flagsOf (getD s (q + 3) 0)
 
-pub headed : (s : List ℕ) (q : ℕ) → 6 ≤ length s - q → getD s (q + 2) 0 ≡ 0xD0 → 1 ≤ getD s (q + 3) 0 % 16 → getD s (q + 3) 0 % 16 ≤ 4 → Headed s q
+pub headed : (s : List ℕ) (q : ℕ) → 6 ≤ length s - q → getD s (q + 2) 0 ≡ 0xD0 → 1 ≤ getD s (q + 3) 0 % 16 → getD s (q + 3) 0 % 16 ≤ lastType → Headed s q
 headed s q h m i j = typed (head-typed s q h m)
   where
     Made : TypeFound → Type 0
@@ -55,13 +54,7 @@ headed s q h m i j = typed (head-typed s q h m)
         }
 
     typed : Made (typeAt (getD s (q + 3) 0) q)
-    typed =
-        let low = getD s (q + 3) 0 % 16 in
-        pick-by Made (eqb low 1) _ _ (λ _. is Request)
-        (λ k. pick-by Made (eqb low 2) _ _ (λ _. is Reply)
-        (λ l. pick-by Made (eqb low 3) _ _ (λ _. is Object)
-        (λ m. pick-by Made (eqb low 4) _ _ (λ _. is Communication)
-        (λ n. absurd (omega (arith, i, j, eqb-false low 1 k, eqb-false low 2 l, eqb-false low 3 m, eqb-false low 4 n))))))
+    typed = type-by Made (getD s (q + 3) 0) q (λ t _. is t) (λ none. absurd (none i j))
 
 -- ---- nothing there can belong to a frame before it
 

@@ -10,13 +10,26 @@ use borrow.Author.Tests.{le-ltb, lt-ltb, le-leb, lt-leb, eq-eqb, ne-eqb}
 use Rattle.wire.specs.Bytes.{pick, and, be16, marker}
 use Rattle.wire.specs.Laws.{pick-yes, pick-no, and-no}
 use Rattle.answer.specs.declared.Refusal.the-variants.{LengthTooShort}
-use Rattle.dss_head.specs.Heads.{headAt}
+use Rattle.dss_head.specs.Heads.{headAt, typeByte}
 use Rattle.dss_head.specs.declared.DssType.{DssType}
+use Rattle.dss_head.specs.declared.DssType.the-variants.{Object}
 use Rattle.dss_head.specs.declared.DssHeader.{DssHeader}
 use Rattle.dss_head.specs.declared.HeadFound.{HeadFound}
 use Rattle.dss_head.specs.declared.HeadFound.the-variants.{Head}
 use Rattle.dss_frame.specs.declared.Rules.{Rules}
 use Rattle.dss_frame.specs.Reading.{finished, absorbs, look, lookAt, refusal, follows, ownObject, droppedAt}
+
+-- ---- which types follow
+
+module _ (t next : DssType) where
+  pub follows-own : typeByte next ≡ typeByte t → follows t next ≡ true
+  follows-own e = rw (eq-eqb (typeByte next) (typeByte t) e)
+
+  pub follows-other : (typeByte next ≡ typeByte t → ⊥) → (typeByte next ≡ typeByte Object → ⊥) → follows t next ≡ false
+  follows-other n o = rw (ne-eqb (typeByte next) (typeByte t) n, ne-eqb (typeByte next) (typeByte Object) o)
+
+  pub follows-object : typeByte next ≡ typeByte Object → follows t next ≡ follows t Object
+  follows-object e = rw e
 
 -- ---- an object of its own
 

@@ -3,6 +3,7 @@ ghost use mathlib.Core.Path.{_≡_};
 ghost use Prim.Native.Nat.{_+_, _≤_};
 ghost use lib.ListN.{length};
 ghost use Rattle.wire.specs.Bytes.{be16, marker};
+ghost use Rattle.dss_head.specs.declared.DssType.the-variants.{Object as asObject};
 ghost use Rattle.dss_head.specs.declared.HeadFound.the-variants.{Head};
 ghost use Rattle.dss_frame.specs.Reading.{follows, ownObject, droppedAt, refusal, lookAt};
 ghost use Rattle.dss_measure.specs.Measure.{lookedOf};
@@ -15,36 +16,32 @@ use dss_head::DSS_HEADER_LEN;
 use dss_head::DssHeader;
 use dss_head::DssType;
 
+// Whether an object may be absorbed by a frame whose first segment has a type.
+pub(crate) fn takes_object(first: DssType) -> bool
+    ensures { λ r. ⌜ r ≡ follows first asObject ⌝ }
+{
+    match first {
+        DssType::Request => true,
+        DssType::Reply => true,
+        DssType::Object => true,
+        DssType::Communication => false,
+        DssType::NoReply => true,
+    }
+}
+
 // Whether a segment of a type may be absorbed by a frame whose first segment has a type.
 pub(crate) fn follows(first: DssType, next: DssType) -> bool
     ensures { λ r. ⌜ r ≡ follows first next ⌝ }
 {
-    match first {
-        DssType::Request => match next {
-            DssType::Request => true,
-            DssType::Reply => false,
-            DssType::Object => true,
-            DssType::Communication => false,
-        },
-        DssType::Reply => match next {
-            DssType::Request => false,
-            DssType::Reply => true,
-            DssType::Object => true,
-            DssType::Communication => false,
-        },
-        DssType::Object => match next {
-            DssType::Request => false,
-            DssType::Reply => false,
-            DssType::Object => true,
-            DssType::Communication => false,
-        },
-        DssType::Communication => match next {
-            DssType::Request => false,
-            DssType::Reply => false,
-            DssType::Object => false,
-            DssType::Communication => true,
-        },
+    let object = DssType::Object;
+    let kind = next.to_byte();
+    if kind == first.to_byte() {
+        return true;
     }
+    if kind != object.to_byte() {
+        return false;
+    }
+    takes_object(first)
 }
 
 // Whether two bytes are a continuation marker.

@@ -6,6 +6,7 @@ ghost use Prim.Native.Nat.{_<_};
 ghost use Rattle.dss_measure.specs.Glance.{Headed, Apart, Lone};
 use super::left;
 use dss_head::DSS_HEADER_LEN;
+use dss_head::DSS_LAST_TYPE;
 use dss_head::DSS_MAGIC;
 
 // Whether a head stands at a place.
@@ -22,7 +23,7 @@ pub(crate) fn has_head(run: &[u8], at: usize) -> bool
     if low == 0 {
         return false;
     }
-    low <= 4
+    low <= DSS_LAST_TYPE
 }
 
 // Whether nothing that stands at a place can belong to a frame before it: fewer than six bytes are left, or a head has same

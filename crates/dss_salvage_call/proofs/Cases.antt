@@ -31,7 +31,7 @@ p9 = 0x00 ∷ 0x07 ∷ 0xD0 ∷ 0x03 ∷ 0x00 ∷ 0x01 ∷ 0xAA ∷ 0x00 ∷ 0x0
 
 -- P2, a frame of eight bytes with no type, P9, and three bytes more
 spoilt : List ℕ
-spoilt = p2 ++ (0x00 ∷ 0x08 ∷ 0xD0 ∷ 0x05 ∷ 0x00 ∷ 0x07 ∷ 0xC1 ∷ 0xC2 ∷ []) ++ p9 ++ (0x00 ∷ 0x06 ∷ 0xD0 ∷ [])
+spoilt = p2 ++ (0x00 ∷ 0x08 ∷ 0xD0 ∷ 0x06 ∷ 0x00 ∷ 0x07 ∷ 0xC1 ∷ 0xC2 ∷ []) ++ p9 ++ (0x00 ∷ 0x06 ∷ 0xD0 ∷ [])
 
 -- P2, and a length of five with a good frame behind it, which isn't reached
 five : List ℕ
@@ -74,7 +74,7 @@ cases : (answer p8 0 2 ≡ Done 2 0 6)
     × (row-of p8 0 (blank ∷ blank ∷ []) ≡ framed 6 Reply false 7 0 0 1 ∷ refusal (InvalidMagic 0) 6 ∷ [])
     × (answer spoilt 2 3 ≡ Done 3 2 28)
     × (room-of spoilt (replicate 3 9) 4 ≡ 0xAA ∷ 0xBB ∷ 9 ∷ [])
-    × (row-of spoilt 3 (replicate 4 blank) ≡ framed 6 Reply false 7 0 0 1 ∷ refusal (InvalidDssType 5) 6 ∷ framed 7 Object true 1 0 2 2 ∷ blank ∷ [])
+    × (row-of spoilt 3 (replicate 4 blank) ≡ framed 6 Reply false 7 0 0 1 ∷ refusal (InvalidDssType 6) 6 ∷ framed 7 Object true 1 0 2 2 ∷ blank ∷ [])
     × (answer five 0 2 ≡ Done 2 0 6)
     × (row-of five 0 (blank ∷ blank ∷ []) ≡ framed 6 Reply false 7 0 0 1 ∷ refusal (LengthTooShort 5) 6 ∷ [])
     × (answer [] 0 0 ≡ Done 0 0 0)

@@ -27,6 +27,7 @@ use Rattle.dss_writer.proofs.DssWriter.next_correlation_id.Reads as nex
 use Rattle.dss_writer.proofs.DssWriter.write_dss_full.Reads as write-dss-full
 use Rattle.dss_writer.proofs.DssWriter.write_dss.Reads as write-dss
 use Rattle.dss_writer.proofs.DssWriter.write_request.Reads as write-request
+use Rattle.dss_writer.proofs.DssWriter.write_request_no_reply.Reads as write-request-no-reply
 use Rattle.dss_writer.proofs.DssWriter.write_object.Reads as write-object
 use Rattle.dss_writer.proofs.DssWriter.write_object_same_corr.Reads as write-object-same-corr
 use Rattle.dss_writer.proofs.DssWriter.write_request_next_same_corr.Reads as write-request-next-same-corr
@@ -101,6 +102,11 @@ module _ (κs : Lfts 2) (w : DssWriter) (chained : Bool) (payload room : RefT (L
       → write-request.Post κs (w, (payload, (chained, (room, tt)))) r′ (w, (payload, (chained, (at-last room l′, tt))))
       → (r ≡ r′) × (l ≡ l′)
   write-request-one p q = writes-one p q
+
+  pub write-request-no-reply-one : write-request-no-reply.Post κs (w, (payload, (chained, (room, tt)))) r (w, (payload, (chained, (at-last room l, tt))))
+      → write-request-no-reply.Post κs (w, (payload, (chained, (room, tt)))) r′ (w, (payload, (chained, (at-last room l′, tt))))
+      → (r ≡ r′) × (l ≡ l′)
+  write-request-no-reply-one p q = writes-one p q
 
   pub write-object-one : write-object.Post κs (w, (payload, (chained, (room, tt)))) r (w, (payload, (chained, (at-last room l, tt))))
       → write-object.Post κs (w, (payload, (chained, (room, tt)))) r′ (w, (payload, (chained, (at-last room l′, tt))))

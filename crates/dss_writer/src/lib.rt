@@ -8,7 +8,7 @@ ghost use lib.ListN.{length};
 ghost use Rattle.wire.specs.Bytes.{two, splice, laid};
 ghost use Rattle.answer.specs.Rooms.{capped, Lays};
 ghost use Rattle.answer.specs.declared.RoomFor.the-variants.{Enough as enough};
-ghost use Rattle.dss_head.specs.declared.DssType.the-variants.{Request as asRequest, Object as asObject};
+ghost use Rattle.dss_head.specs.declared.DssType.the-variants.{Request as asRequest, Object as asObject, NoReply as asNoReply};
 ghost use Rattle.dss_head.specs.Heads.{headBytes};
 ghost use Rattle.dss_frame.specs.Written.{headOf, chunks, written, frameSize};
 ghost use Rattle.dss_writer.specs.Writer.{fresh, finished, withCorrelation, nextCorrelation, FilledAt, sent, wroteBy, Writes};
@@ -295,6 +295,13 @@ impl DssWriter {
         ensures { λ r. ⌜ Writes self (sent (self .«correlation_id») asRequest chained false (now (payload .entry))) (now (room .entry)) r (now (room .exit)) ⌝ }
     {
         self.write_dss(DssType::Request, chained, payload, room)
+    }
+
+    // A request that wants no reply: W-210.
+    pub fn write_request_no_reply(self, payload: &[u8], chained: bool, room: &mut [u8]) -> Wrote
+        ensures { λ r. ⌜ Writes self (sent (self .«correlation_id») asNoReply chained false (now (payload .entry))) (now (room .entry)) r (now (room .exit)) ⌝ }
+    {
+        self.write_dss(DssType::NoReply, chained, payload, room)
     }
 
     pub fn write_object(self, payload: &[u8], chained: bool, room: &mut [u8]) -> Wrote

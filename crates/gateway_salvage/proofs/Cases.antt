@@ -25,7 +25,7 @@ p9 = 0x00 ∷ 0x07 ∷ 0xD0 ∷ 0x03 ∷ 0x00 ∷ 0x01 ∷ 0xAA ∷ 0x00 ∷ 0x0
 
 -- P9, a frame of eight bytes with no type, P2, and three bytes more
 spoilt : List ℕ
-spoilt = p9 ++ ((0x00 ∷ 0x08 ∷ 0xD0 ∷ 0x05 ∷ 0x00 ∷ 0x07 ∷ 0xC1 ∷ 0xC2 ∷ []) ++ (p2 ++ (0x00 ∷ 0x06 ∷ 0xD0 ∷ [])))
+spoilt = p9 ++ ((0x00 ∷ 0x08 ∷ 0xD0 ∷ 0x06 ∷ 0x00 ∷ 0x07 ∷ 0xC1 ∷ 0xC2 ∷ []) ++ (p2 ++ (0x00 ∷ 0x06 ∷ 0xD0 ∷ [])))
 
 -- ---- what is answered, and what the row then holds
 
@@ -39,7 +39,7 @@ row-of s size row = landed (entriesFit s (salvaged s .entries) size (places row)
 cases : (answer p8 0 2 ≡ 0 ∷ 0 ∷ 2 ∷ 0 ∷ 6 ∷ replicate 3 0)
     × (row-of p8 0 (replicate 16 9) ≡ (0 ∷ 0 ∷ 6 ∷ 0x02 ∷ 7 ∷ 0 ∷ 1 ∷ 0 ∷ []) ++ (2 ∷ 6 ∷ replicate 6 0))
     × (answer spoilt 2 3 ≡ 0 ∷ 0 ∷ 3 ∷ 2 ∷ 28 ∷ replicate 3 0)
-    × (row-of spoilt 2 (replicate 25 9) ≡ (0 ∷ 0 ∷ 7 ∷ 0x43 ∷ 1 ∷ 2 ∷ 2 ∷ 0 ∷ []) ++ ((3 ∷ 14 ∷ 5 ∷ replicate 5 0) ++ ((0 ∷ 2 ∷ 6 ∷ 0x02 ∷ 7 ∷ 0 ∷ 1 ∷ 0 ∷ []) ++ (9 ∷ []))))
+    × (row-of spoilt 2 (replicate 25 9) ≡ (0 ∷ 0 ∷ 7 ∷ 0x43 ∷ 1 ∷ 2 ∷ 2 ∷ 0 ∷ []) ++ ((3 ∷ 14 ∷ 6 ∷ replicate 5 0) ++ ((0 ∷ 2 ∷ 6 ∷ 0x02 ∷ 7 ∷ 0 ∷ 1 ∷ 0 ∷ []) ++ (9 ∷ []))))
     × (answer [] 0 0 ≡ replicate 8 0)
     × (answer spoilt 1 3 ≡ 9 ∷ 0 ∷ 2 ∷ 3 ∷ replicate 4 0)
     × (answer spoilt 2 2 ≡ 9 ∷ 0 ∷ 2 ∷ 3 ∷ replicate 4 0)

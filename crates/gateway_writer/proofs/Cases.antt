@@ -16,7 +16,7 @@ Answers type fill number words =
     Sends (typeAt type 0) (writerOf 7 fill) (frameOf 7 true false (0xAA ∷ [])) (replicate 3 9) (replicate 8 5) number (replicate 3 9) words
 
 -- no such type and a mark beyond the room: 10 with the mark and the room's length, at the mark
-beyond : Answers 0xF5 4 10 (10 ∷ 4 ∷ 4 ∷ 3 ∷ 0 ∷ 0 ∷ 0 ∷ 0 ∷ [])
+beyond : Answers 0xF6 4 10 (10 ∷ 4 ∷ 4 ∷ 3 ∷ 0 ∷ 0 ∷ 0 ∷ 0 ∷ [])
 unfolding Answers splice laid
 beyond = record { answers = record { number-is = refl; words-are = refl }; room-is = refl }
 
@@ -26,7 +26,7 @@ unfolding Answers written splice laid
 beyond-typed = record { answers = record { number-is = refl; words-are = refl }; room-is = refl }
 
 -- no such type and a mark at the room's end: 3 with the low four bits, at 0, before 9
-no-type : Answers 0xF5 3 3 (3 ∷ 0 ∷ 5 ∷ 0 ∷ 0 ∷ 0 ∷ 0 ∷ 0 ∷ [])
+no-type : Answers 0xF6 3 3 (3 ∷ 0 ∷ 6 ∷ 0 ∷ 0 ∷ 0 ∷ 0 ∷ 0 ∷ [])
 unfolding Answers splice laid
 no-type = record { answers = record { number-is = refl; words-are = refl }; room-is = refl }
 
@@ -40,3 +40,9 @@ sends : Sends (typeAt 3 0) (writerOf 7 1) (frameOf 7 true false (0xAA ∷ [])) (
     (9 ∷ 0x00 ∷ 0x07 ∷ 0xD0 ∷ 0x43 ∷ 0x00 ∷ 0x07 ∷ 0xAA ∷ 9 ∷ []) (0 ∷ 0 ∷ 7 ∷ 8 ∷ 0 ∷ 0 ∷ 0 ∷ 0 ∷ [])
 unfolding written splice laid
 sends = record { answers = record { number-is = refl; words-are = refl }; room-is = refl }
+
+-- a request that wants no reply, by its byte, whose high four bits are nothing to a type
+sends-no-reply : Sends (typeAt 0xF5 0) (writerOf 7 1) (frameOf 7 true false (0xAA ∷ [])) (replicate 9 9) (replicate 8 5) 0
+    (9 ∷ 0x00 ∷ 0x07 ∷ 0xD0 ∷ 0x45 ∷ 0x00 ∷ 0x07 ∷ 0xAA ∷ 9 ∷ []) (0 ∷ 0 ∷ 7 ∷ 8 ∷ 0 ∷ 0 ∷ 0 ∷ 0 ∷ [])
+unfolding written splice laid
+sends-no-reply = record { answers = record { number-is = refl; words-are = refl }; room-is = refl }

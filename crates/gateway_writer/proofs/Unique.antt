@@ -16,6 +16,7 @@ use Rattle.gateway_writer.proofs.lattrugone_next_correlation_id.Reads a
 use Rattle.gateway_writer.proofs.lattrugone_write_dss_full.Reads as write-dss-full
 use Rattle.gateway_writer.proofs.lattrugone_write_dss.Reads as write-dss
 use Rattle.gateway_writer.proofs.lattrugone_write_request.Reads as write-request
+use Rattle.gateway_writer.proofs.lattrugone_write_request_no_reply.Reads as write-request-no-reply
 use Rattle.gateway_writer.proofs.lattrugone_write_object.Reads as write-object
 use Rattle.gateway_writer.proofs.lattrugone_write_object_same_corr.Reads as write-object-same-corr
 use Rattle.gateway_writer.proofs.lattrugone_write_request_next_same_corr.Reads as write-request-next-same-corr
@@ -63,6 +64,12 @@ module _ (κs : Lfts 3) (id : ℕ) (payload room words : RefT (List ℕ)) (r r�
       → write-request.Post κs (id, (fill, (chained, (payload, (room, (words, tt)))))) r′ (id, (fill, (chained, (payload, (at-last room k′, (at-last words l′, tt))))))
       → (r ≡ r′) × (l ≡ l′) × (k ≡ k′)
   write-request-one fill chained p q = sends-one p q
+
+  pub write-request-no-reply-one : (fill chained : ℕ)
+      → write-request-no-reply.Post κs (id, (fill, (chained, (payload, (room, (words, tt)))))) r (id, (fill, (chained, (payload, (at-last room k, (at-last words l, tt))))))
+      → write-request-no-reply.Post κs (id, (fill, (chained, (payload, (room, (words, tt)))))) r′ (id, (fill, (chained, (payload, (at-last room k′, (at-last words l′, tt))))))
+      → (r ≡ r′) × (l ≡ l′) × (k ≡ k′)
+  write-request-no-reply-one fill chained p q = sends-one p q
 
   pub write-object-one : (fill chained : ℕ)
       → write-object.Post κs (id, (fill, (chained, (payload, (room, (words, tt)))))) r (id, (fill, (chained, (payload, (at-last room k, (at-last words l, tt))))))

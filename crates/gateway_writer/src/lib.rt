@@ -4,7 +4,7 @@ ghost use mathlib.Core.Path.{_≡_};
 ghost use mathlib.Core.Bool.{true, false};
 ghost use Rattle.answer.specs.Rooms.{capped};
 ghost use Rattle.dss_head.specs.Heads.{typeAt, bit};
-ghost use Rattle.dss_head.specs.declared.DssType.the-variants.{Request as asRequest, Object as asObject};
+ghost use Rattle.dss_head.specs.declared.DssType.the-variants.{Request as asRequest, Object as asObject, NoReply as asNoReply};
 ghost use Rattle.dss_head.specs.declared.TypeFound.the-variants.{Is as is};
 ghost use Rattle.dss_frame.specs.Written.{written, frameSize};
 ghost use Rattle.dss_writer.specs.Writer.{fresh, nextCorrelation};
@@ -137,6 +137,25 @@ pub extern "C" fn lattrugone_write_request(
         fill,
     };
     let wrote = writer.write_request(payload, chained > 0, room);
+    put_wrote(words, wrote)
+}
+
+#[no_mangle]
+pub extern "C" fn lattrugone_write_request_no_reply(
+    correlation_id: u16,
+    fill: usize,
+    chained: u8,
+    payload: &[u8],
+    room: &mut [u8],
+    words: &mut [u64],
+) -> u8
+    ensures { λ r. ⌜ Sends (is asNoReply) (writerOf «correlation_id» fill) (frameOf «correlation_id» (yes chained) false (now (payload .entry))) (now (room .entry)) (now (words .entry)) r (now (room .exit)) (now (words .exit)) ⌝ }
+{
+    let writer = DssWriter {
+        correlation_id,
+        fill,
+    };
+    let wrote = writer.write_request_no_reply(payload, chained > 0, room);
     put_wrote(words, wrote)
 }
 

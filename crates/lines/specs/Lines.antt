@@ -10,7 +10,7 @@ use Rattle.answer.specs.Numbers.{numberOf, valuesOf}
 use Rattle.answer.specs.declared.Refused.{Refused}
 use Rattle.text.specs.Texts.{text, joined, decimal}
 use Rattle.dss_head.specs.declared.DssType.{DssType}
-use Rattle.dss_head.specs.declared.DssType.the-variants.{Request, Reply, Object, Communication}
+use Rattle.dss_head.specs.declared.DssType.the-variants.{Request, Reply, Object, Communication, NoReply}
 use Rattle.dss_head.specs.declared.DssFlags.{DssFlags}
 use Rattle.dss_head.specs.declared.DssHeader.{DssHeader}
 
@@ -19,6 +19,7 @@ typeText Request = text "request"
 typeText Reply = text "reply"
 typeText Object = text "object"
 typeText Communication = text "communication"
+typeText NoReply = text "noreply"
 
 -- "flags (c, e, s or -)"
 abbrev pub letterOf : Bool → Char → ℕ

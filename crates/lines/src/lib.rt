@@ -25,6 +25,9 @@ pub fn put_type(room: &mut [u8], at: usize, dss_type: DssType) -> usize
         DssType::Communication => {
             return text::put_text(room, at, b"communication");
         }
+        DssType::NoReply => {
+            return text::put_text(room, at, b"noreply");
+        }
     }
 }
 

@@ -1,5 +1,5 @@
 -- What a reading gives is small: the numbers of its line are below 100,000 where the run is at most 65,536 bytes.
-use Prim.Native.Nat.{ℕ, zero, suc, _+_, _-_, _%_, _≤_, _<_}
+use Prim.Native.Nat.{ℕ, zero, suc, _+_, _-_, _≤_, _<_}
 use native.Mathlib.Omega.{arith}
 use mathlib.Core.Path.{_≡_, refl}
 use mathlib.Core.Bool.{Bool}
@@ -14,8 +14,8 @@ use Rattle.answer.specs.Numbers.{numberOf, valuesOf}
 use Rattle.answer.specs.declared.Refusal.the-variants.{Incomplete, LengthTooShort, DeadContinuation}
 use Rattle.answer.specs.declared.Refused.{Refused}
 use Rattle.dss_head.specs.Heads.{headWith, headAt}
+use Rattle.dss_head.specs.Types.{type-by}
 use Rattle.dss_head.specs.declared.DssType.{DssType}
-use Rattle.dss_head.specs.declared.DssType.the-variants.{Request, Reply, Object, Communication}
 use Rattle.dss_head.specs.declared.DssHeader.{DssHeader}
 use Rattle.dss_head.specs.declared.TypeFound.{TypeFound}
 use Rattle.dss_head.specs.declared.TypeFound.the-variants.{Is}
@@ -101,11 +101,8 @@ module _ (s : List ℕ) (o : Octets s) where
       let format : ℕ = getD s (at + 3) 0 in
       pick-by (OfHead s) (ltb (length s - at) 6) _ _ (λ e. no-head _ (record { number = omega arith; place = h; value = omega arith }))
       (λ e. pick-by (OfHead s) (eqb (getD s (at + 2) 0) 0xD0) _ _
-      (λ e₁. pick-by (λ (t : TypeFound). OfHead s (headWith s at t)) (eqb (format % 16) 1) _ _ (λ k. head-typed at Request)
-      (λ e₂. pick-by (λ (t : TypeFound). OfHead s (headWith s at t)) (eqb (format % 16) 2) _ _ (λ k. head-typed at Reply)
-      (λ e₃. pick-by (λ (t : TypeFound). OfHead s (headWith s at t)) (eqb (format % 16) 3) _ _ (λ k. head-typed at Object)
-      (λ e₄. pick-by (λ (t : TypeFound). OfHead s (headWith s at t)) (eqb (format % 16) 4) _ _ (λ k. head-typed at Communication)
-      (λ e₅. no-head _ (record { number = omega arith; place = h; value = omega arith }))))))
+      (λ e₁. type-by (λ (t : TypeFound). OfHead s (headWith s at t)) format at (λ t _. head-typed at t)
+      (λ _. no-head _ (record { number = omega arith; place = h; value = omega arith })))
       (λ e₁. no-head _ (record { number = omega arith; place = h; value = omega (arith, o (at + 2)) })))
 
   -- ---- a look

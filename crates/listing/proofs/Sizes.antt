@@ -3,16 +3,16 @@ use Prim.Native.Nat.{ℕ, suc, _+_, _*_, _/_, _%_, _≤_, _<_}
 use native.Mathlib.Omega.{arith}
 use mathlib.Core.Path.{_≡_, refl, ap, _∙_}
 use mathlib.Core.List.{List, [], _∷_}
-use lib.Dec.{ltb}
+use lib.Dec.{ltb, leb}
 use lib.ListN.{length, getD, length-append}
-use borrow.Author.Tests.{ltb-true, ltb-false}
+use borrow.Author.Tests.{ltb-true, ltb-false, leb-true}
 use Rattle.wire.specs.Laws.{by}
 use Rattle.answer.specs.Numbers.{numberOf, valuesOf}
 use Rattle.answer.specs.declared.Refused.{Refused}
 use Rattle.text.specs.Texts.{text, joined, decimal}
 use Rattle.text.specs.TextLaws.{joined-more, decimal-one, decimal-more}
+use Rattle.dss_head.specs.Types.{every-type}
 use Rattle.dss_head.specs.declared.DssType.{DssType}
-use Rattle.dss_head.specs.declared.DssType.the-variants.{Request, Reply, Object, Communication}
 use Rattle.dss_head.specs.declared.DssHeader.{DssHeader}
 use Rattle.lines.specs.Lines.{typeText, flagsText, numbered, frameText, endText, refusedText}
 
@@ -46,10 +46,7 @@ unfolding joined
 joined-none = refl
 
 type-size : (t : DssType) → length (typeText t) ≤ 13
-type-size Request = omega arith
-type-size Reply = omega arith
-type-size Object = omega arith
-type-size Communication = omega arith
+type-size t = leb-true (length (typeText t)) 13 (every-type (λ (u : DssType). leb (length (typeText u)) 13) refl t)
 
 module _ (first : ℕ) (h : DssHeader) (segments bytes : ℕ) where
   frame-is : frameText first h segments bytes

@@ -33,6 +33,7 @@ fn main() {
     list_file(b"ahead_length");
     list_file(b"absorbed");
     list_file(b"own_object");
+    list_file(b"noreply");
     list_file(b"marker");
     list_file(b"spoilt");
     list_file(b"connect");

@@ -8,6 +8,7 @@ use gateway_writer::lattrugone_write_object as write_object;
 use gateway_writer::lattrugone_write_object_same_corr as write_object_same_corr;
 use gateway_writer::lattrugone_write_request as write_request;
 use gateway_writer::lattrugone_write_request_next_same_corr as write_request_next_same_corr;
+use gateway_writer::lattrugone_write_request_no_reply as write_request_no_reply;
 use replay_list::number::low8;
 use replay_list::number::low16;
 use replay_list::number::wide;
@@ -36,7 +37,7 @@ pub(crate) fn head(asked: Asked, run: &[u8], room: &mut [u8], words: &mut [u64])
     }
 }
 
-// The writer, from its fill mark on: 16 to 21.
+// The writer, from its fill mark on: 16 to 22.
 pub(crate) fn writer(asked: Asked, run: &[u8], room: &mut [u8], words: &mut [u64]) -> u64 {
     let call = asked.call;
     let id = low16(asked.a);
@@ -50,6 +51,7 @@ pub(crate) fn writer(asked: Asked, run: &[u8], room: &mut [u8], words: &mut [u64
         19 => wide(write_object(id, fill, c, run, room, words)),
         20 => wide(write_object_same_corr(id, fill, c, run, room, words)),
         21 => wide(write_request_next_same_corr(id, fill, c, run, room, words)),
+        22 => wide(write_request_no_reply(id, fill, c, run, room, words)),
         _ => NO_CALL,
     }
 }

@@ -53,10 +53,10 @@ fn show_frames() {
     io::write_all(STDOUT_FILENO, b"\n");
 }
 
-// A reply, AB; one whose type is 5; a request, C, and behind it two bytes.
+// A reply, AB; one whose type is 6; a request, C, and behind it two bytes.
 fn show_entries() {
     let run =
-        b"\x00\x08\xD0\x02\x00\x07AB\x00\x07\xD0\x05\x00\x07x\x00\x07\xD0\x01\x00\x02C\x00\x06";
+        b"\x00\x08\xD0\x02\x00\x07AB\x00\x07\xD0\x06\x00\x07x\x00\x07\xD0\x01\x00\x02C\x00\x06";
     let mut room = [b'.'; 8];
     let blank = SalvageEntry {
         entry: Entry::Frame(blank_frame()),

@@ -15,6 +15,8 @@ pub enum DssType {
     Object,
     /// 4
     Communication,
+    /// 5, a request that wants no reply. db2-proto doesn't have it.
+    NoReply,
 }
 
 impl DssType {
@@ -25,7 +27,8 @@ impl DssType {
             1 => DssType::Request,
             2 => DssType::Reply,
             3 => DssType::Object,
-            _ => DssType::Communication,
+            4 => DssType::Communication,
+            _ => DssType::NoReply,
         })
     }
 
@@ -36,6 +39,7 @@ impl DssType {
             DssType::Reply => 2,
             DssType::Object => 3,
             DssType::Communication => 4,
+            DssType::NoReply => 5,
         }
     }
 }

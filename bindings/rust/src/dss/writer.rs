@@ -79,6 +79,13 @@ impl DssWriter {
         });
     }
 
+    /// A request that wants no reply. db2-proto doesn't have it.
+    pub fn write_request_no_reply(&mut self, payload: &[u8], chained: bool) {
+        self.write(payload, |id, fill, room, words| {
+            port::write_request_no_reply(id, fill, chained as u8, payload, room, words)
+        });
+    }
+
     /// An object.
     pub fn write_object(&mut self, payload: &[u8], chained: bool) {
         self.write(payload, |id, fill, room, words| {

@@ -30,6 +30,7 @@ impl Writer {
             Object { chained } => writer.write_object(payload, chained != 0),
             ObjectSame { chained } => writer.write_object_same_corr(payload, chained != 0),
             RequestSame { chained } => writer.write_request_next_same_corr(payload, chained != 0),
+            RequestNoReply { .. } => panic!("db2-proto doesn't have it"),
             BuildRequest { .. } | BuildObject { .. } => panic!("a builder has no writer"),
         }
     }

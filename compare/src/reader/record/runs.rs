@@ -1,9 +1,9 @@
 //! The runs that are recorded.
+use crate::reader::long::written;
 use crate::reader::short::{frame, framed};
 use crate::reader::{runs, PAPER};
 use crate::record::counted;
 use crate::Chance;
-use db2_proto::dss::{DssType, DssWriter};
 
 /// Document 01's cases and every other pair of them, damaged and cut ones, frames around each edge, continuations, lengths of 0
 /// and 1 among them, long segments, random ones. The salvage reading reads the same.
@@ -43,16 +43,13 @@ const EDGES: [usize; 9] = [
 /// Frames around each edge as the Rust writes them: alone, before a segment that could be absorbed, behind a frame of their
 /// type.
 fn edges() -> Vec<Vec<u8>> {
-    let types = [DssType::Request, DssType::Reply, DssType::Object];
     let mut all = Vec::new();
     for (i, len) in EDGES.into_iter().enumerate() {
-        let dss_type = types[i % 3];
-        let mut writer = DssWriter::new(0x0102);
-        writer.write_dss_full(dss_type, true, true, &counted(len, 7 * i as u16));
-        let alone = writer.finish();
+        let kind = [1, 2, 3, 5][i % 4];
+        let alone = written(kind, true, &counted(len, 7 * i as u16));
         all.push(alone[..alone.len() - 1].to_vec());
         all.push([&alone[..], &framed(0x13, 9, &[0x7F, 0xFE, 0xC1])].concat());
-        all.push([&framed(dss_type.to_byte(), 1, &[0xAA])[..], &alone].concat());
+        all.push([&framed(kind, 1, &[0xAA])[..], &alone].concat());
         all.push(alone);
     }
     all
@@ -83,7 +80,7 @@ fn continuations() -> Vec<Vec<u8>> {
         all.push(run[..place + 1].to_vec());
         all.push(run[..run.len() - 1].to_vec());
         run.extend(framed(0x13, 7, &[0xC1, 0xC2]));
-        run[3] = if i % 4 == 3 { 0xD5 } else { 0x43 };
+        run[3] = if i % 4 == 3 { 0xD6 } else { 0x43 };
         all.push(run);
     }
     all

@@ -65,6 +65,21 @@ same-length-4 c = search needs
 returns-4 : tie.Need-returns-4
 returns-4 c = put-type-is _ _ (c .before .before .before .before .before .enum-told4 .given .1) (c .before .before .put-text4 .ensures)
 
+enum-told-5 : tie.Need-enum-told-5
+enum-told-5 c = search needs
+
+slice-aggregate-put-text-5 : tie.Need-slice-aggregate-put-text-5
+slice-aggregate-put-text-5 c = refl
+
+put-text-requires-5 : tie.Need-put-text-requires-5
+put-text-requires-5 c κs = tt
+
+same-length-5 : tie.Need-same-length-5
+same-length-5 c = search needs
+
+returns-5 : tie.Need-returns-5
+returns-5 c = put-type-is _ _ (c .before .before .before .before .before .enum-told5 .given .1) (c .before .before .put-text5 .ensures)
+
 pub put-type-spec : {M : Type 1} → statement M
 put-type-spec =
     tie.close
@@ -88,4 +103,9 @@ put-type-spec =
     slice-aggregate-put-text-4
     put-text-requires-4
     same-length-4
-    returns-4)
+    returns-4
+    enum-told-5
+    slice-aggregate-put-text-5
+    put-text-requires-5
+    same-length-5
+    returns-5)

@@ -7,7 +7,8 @@ use lib.ListN.{length, length-set}
 use borrow.Author.Needs.{needs}
 use Rattle.answer.specs.RoomLaws.{room-enough, lays-stored, lays-refused}
 use Rattle.dss_head.specs.Heads.{headBytes}
-use Rattle.dss_head.specs.HeadLaws.{type-most, flags-most}
+use Rattle.dss_head.specs.Types.{type-range}
+use Rattle.dss_head.specs.HeadLaws.{flags-most}
 use Rattle.dss_head.proofs.DssHeader.serialize.Statement.{statement}
 use Rattle.dss_head.proofs.DssHeader.serialize.Tie as tie
 
@@ -33,7 +34,7 @@ to-byte-requires-2 c κs = search needs
 add-format : tie.Need-add-format
 add-format c =
     let h = c .before .before .before .before .before .before .before .args .self in
-    omega (arith, type-most (h .«dss_type»), flags-most (h .flags))
+    omega (arith, type-range (h .«dss_type»), flags-most (h .flags))
 
 cast-room : tie.Need-cast-room
 cast-room c = search needs

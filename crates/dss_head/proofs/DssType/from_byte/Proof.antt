@@ -1,4 +1,4 @@
--- `dss_head::DssType::from_byte` meets its contract: the low four bits are the number of the arm, or none of the four.
+-- `dss_head::DssType::from_byte` meets its contract: the low four bits are the number of the arm, or none of the types' numbers.
 use borrow.Author.Tests.{ne-eqb}
 use Rattle.dss_head.proofs.DssType.from_byte.Statement.{statement}
 use Rattle.dss_head.proofs.DssType.from_byte.Tie as tie
@@ -16,9 +16,12 @@ returns-4 : tie.Need-returns-4
 returns-4 c = rw (c .match .keys4)
 
 returns-5 : tie.Need-returns-5
-returns-5 c =
+returns-5 c = rw (c .match .keys5)
+
+returns-6 : tie.Need-returns-6
+returns-6 c =
     let r = c .match .rest in
-    simp (ne-eqb _ _ (r .0 .0 .0 .1), ne-eqb _ _ (r .0 .0 .1), ne-eqb _ _ (r .0 .1), ne-eqb _ _ (r .1))
+    simp (ne-eqb _ _ (r .0 .0 .0 .0 .1), ne-eqb _ _ (r .0 .0 .0 .1), ne-eqb _ _ (r .0 .0 .1), ne-eqb _ _ (r .0 .1), ne-eqb _ _ (r .1))
 
 pub from-byte-spec : {M : Type 1} → statement M
-from-byte-spec = tie.close (tie.spec returns returns-2 returns-3 returns-4 returns-5)
+from-byte-spec = tie.close (tie.spec returns returns-2 returns-3 returns-4 returns-5 returns-6)

@@ -5,6 +5,7 @@ use mathlib.Core.Path.{_≡_}
 use lib.ListN.{getD}
 use borrow.Author.Needs.{needs}
 use borrow.Author.Tests.{leb-true}
+use Rattle.dss_head.specs.Types.{lastType}
 use Rattle.dss_measure.specs.Glance.{headed}
 use Rattle.dss_measure.proofs.glance.has_head.Statement.{statement}
 use Rattle.dss_measure.proofs.glance.has_head.Tie as tie
@@ -36,7 +37,7 @@ returns-3 c e = let z : _≡_ {A = ℕ} 0 1 = cc in absurd (omega arith)
 returns-4 : tie.Need-returns-4
 returns-4 c e =
     let a = c .before .before .before .before .before .before .before .args in
-    headed (a .run .now) (a .at) (omega arith) (omega arith) (omega arith) (leb-true (getD (a .run .now) (a .at + 3) 0 % 16) 4 e)
+    headed (a .run .now) (a .at) (omega arith) (omega arith) (omega arith) (leb-true (getD (a .run .now) (a .at + 3) 0 % 16) lastType e)
 
 pub has-head-spec : {M : Type 1} → statement M
 has-head-spec =
