@@ -89,12 +89,9 @@ fn of_frames(frames: &[DssFrame], position: u64, by_frame: &ByFrame) -> Listed {
     let heads: Vec<_> = frames.iter().map(of).collect();
     let record = |words: &Words| ([words[2], words[3], words[4]], words[5]);
     let records: Vec<_> = by_frame.records.iter().map(record).collect();
-    let payloads: Vec<u8> = frames
-        .iter()
-        .flat_map(|frame| frame.payload.clone())
-        .collect();
+    let payloads: Vec<_> = frames.iter().map(|frame| &frame.payload[..]).collect();
     assert!(
-        heads == records && payloads == by_frame.payloads,
+        heads == records && payloads.concat() == by_frame.payloads,
         "the Rust reads other frames"
     );
     of_records(by_frame, position)

@@ -1,5 +1,6 @@
 //! The Rust's reader, call by call. It gives no positions: what remains shows them, also after it stopped.
 use super::walk::{walk, Walked};
+use super::SHORT;
 use crate::answers::{done, expected, of_error, refused, Answer, Words};
 use crate::rows::frame_words;
 use crate::salvage::{self, model};
@@ -13,6 +14,7 @@ pub struct Read {
     pub by: By,
 }
 
+#[derive(PartialEq, Debug)]
 pub enum Came {
     Frame {
         /// Length, the format byte, correlation.
@@ -127,6 +129,7 @@ pub fn next(tally: &mut Tally, reader: &mut DssReader, bytes: &[u8], from: usize
     let what = "the walk and next_frame";
     if let Some(refusal) = not_whole(&walked, from + at) {
         tally.own(what, shown(bytes), ("not whole", at), (rust, stands));
+        model_agrees(tally, bytes, from, at, None);
         return Read::refused(refusal);
     }
     let (paper, came) = match (walked, given) {
@@ -151,21 +154,15 @@ pub fn next(tally: &mut Tally, reader: &mut DssReader, bytes: &[u8], from: usize
         (_, _) => ("another", Came::Refused(refused(0, place, &[]))),
     };
     tally.own(what, shown(bytes), paper, rust);
+    model_agrees(tally, bytes, from, at, Some(&came));
     let by = By::Rust;
     Read { came, by }
 }
 
-/// The frame at a place of these bytes by the model, which must agree with the walk.
-fn by_model(
-    tally: &mut Tally,
-    reader: &mut DssReader,
-    bytes: &[u8],
-    from: usize,
-    at: usize,
-    walked: Walked,
-) -> Read {
-    let given = model::next_frame(bytes, at).expect("the Rust says that it is whole");
-    let (walks, stands, came) = match given {
+/// What the model reads at a place of these bytes, as the walk says it, where it then stands, and in full; nothing where the frame
+/// isn't whole.
+fn modelled(bytes: &[u8], from: usize, at: usize) -> Option<(Walked, usize, Came)> {
+    Some(match model::next_frame(bytes, at)? {
         Ok((frame, end)) => {
             let segments = frame.segments as u64;
             let came = Came::Frame {
@@ -188,9 +185,32 @@ fn by_model(
             let answer = refused(refusal.number as u64, (from + place) as u64, &[value]);
             (walks, place, Came::Refused(answer))
         }
-    };
+    })
+}
+
+/// The frame at a place of these bytes by the model, where the Rust refuses a type 5: it must agree with the walk.
+fn by_model(
+    tally: &mut Tally,
+    reader: &mut DssReader,
+    bytes: &[u8],
+    from: usize,
+    at: usize,
+    walked: Walked,
+) -> Read {
+    let given = modelled(bytes, from, at);
+    let (walks, stands, came) = given.expect("the Rust says that it is whole");
     tally.own("the walk and the model", shown(bytes), walked, walks);
     *reader = DssReader::new(bytes[stands..].to_vec());
     let by = By::Five;
     Read { came, by }
+}
+
+/// Of one run in four, where it is short: the model, which the port is held to where the Rust refuses a type 5, reads as the Rust
+/// does where that doesn't.
+fn model_agrees(tally: &mut Tally, bytes: &[u8], from: usize, at: usize, came: Option<&Came>) {
+    if bytes.len() <= SHORT && bytes.len() % 4 == 0 {
+        let given = modelled(bytes, from, at);
+        let model = given.as_ref().map(|(_, _, came)| came);
+        tally.own("the model and next_frame", shown(bytes), model, came);
+    }
 }

@@ -37,10 +37,11 @@ pub fn framed(format: u8, correlation: u16, payload: &[u8]) -> Vec<u8> {
     frame(payload.len() as u16 + 6, format, correlation, payload)
 }
 
-/// Every length from 0 to 12, type from 0 to 6, set of flags and payload, in twelve bytes.
+/// Every length from 0 to 12, type from 1 to 5 and in turn 0 or 6, set of flags and payload, in twelve bytes.
 pub fn every_frame(correlation: u16) -> impl Iterator<Item = Vec<u8>> {
     (0..=LONGEST as u16).flat_map(move |length| {
-        (0..=6).flat_map(move |kind| {
+        let none = [0, 6][length as usize % 2];
+        [none, 1, 2, 3, 4, 5].into_iter().flat_map(move |kind| {
             FLAGS.into_iter().flat_map(move |flags| {
                 PAYLOADS.map(|payload| frame(length, flags + kind, correlation, &payload))
             })
@@ -139,9 +140,14 @@ pub fn three(tally: &mut Tally, held: &mut Held) {
     }
 }
 
-/// Three types, the last also none.
+/// Three types, the last also none; of type 5 those behind which or behind whose first one it could be absorbed or look so.
 fn every_type() -> impl Iterator<Item = (u8, u8, u8)> {
-    (0..5 * 5 * 6).map(|n| (1 + n % 5, 1 + n / 5 % 5, 1 + n / 25))
+    let all = (0..5 * 5 * 6).map(|n| (1 + n % 5, 1 + n / 5 % 5, 1 + n / 25));
+    all.filter(|(a, b, c)| match (a, b) {
+        (5, _) => [1, 3, 5].contains(b),
+        (_, 5) => [3, 5].contains(c),
+        _ => *c != 5,
+    })
 }
 
 /// A run cut at every byte, and with each of a few bytes in the place of every byte.

@@ -11,6 +11,8 @@ use Rattle.wire.specs.Bytes.{part, splice, laid}
 use Rattle.wire.specs.Octets.{octets-tested}
 use Rattle.answer.specs.Rooms.{noRoom}
 use Rattle.answer.specs.declared.Refusal.the-variants.{InvalidMagic}
+use Rattle.dss_head.specs.Heads.{typeByte}
+use Rattle.dss_head.specs.declared.DssType.{DssType}
 use Rattle.dss_head.specs.declared.DssType.the-variants.{Request, Reply, NoReply}
 use Rattle.dss_frame.specs.Segments.{payloadOf, endOf, frameWalk, continuations, walkFuel}
 use Rattle.dss_frame.specs.Reading.{Read, refused, readAt, absorb, absorbFuel, look}
@@ -62,15 +64,16 @@ lending l = record { ptr = (0, 0); name = 0; now = l }
 abbrev at-two : DssWriter
 at-two = record { «correlation_id» = 7; fill = 2 }
 
--- a chained request with same correlation, of one byte; its bytes; and the room that it was laid into
-abbrev small : Sent
-small = sent 7 Request true true (0xAA ∷ [])
+-- a chained frame with same correlation, of one byte, by its type: a request, or one that wants no reply; and the room that it was laid
+-- into
+abbrev small : DssType → Sent
+small t = sent 7 t true true (0xAA ∷ [])
 
-abbrev filled : List ℕ
-filled = 9 ∷ 9 ∷ 0 ∷ 7 ∷ 0xD0 ∷ 0x51 ∷ 0 ∷ 7 ∷ 0xAA ∷ 9 ∷ 9 ∷ []
+abbrev filled : DssType → List ℕ
+filled t = 9 ∷ 9 ∷ 0 ∷ 7 ∷ 0xD0 ∷ (typeByte t + 0x50) ∷ 0 ∷ 7 ∷ 0xAA ∷ 9 ∷ 9 ∷ []
 
-small-sendable : Sendable small
-small-sendable = record { correlation = omega arith; payload = octets-tested (0xAA ∷ []) refl }
+small-sendable : (t : DssType) → Sendable (small t)
+small-sendable t = record { correlation = omega arith; payload = octets-tested (0xAA ∷ []) refl }
 
 abbrev handed : DssFrame
 handed = record {
@@ -81,12 +84,12 @@ handed = record {
 }
 
 small-calls : (κs κs′ : Lfts 2)
-    → Calls κs κs′ at-two Request true true (lending (0xAA ∷ [])) (lending (replicate 11 9)) (Done (record { «correlation_id» = 7; fill = 9 })) filled
-    (lending (take 9 filled)) (lending (8 ∷ 8 ∷ [])) (Hands handed (standsAt 9)) (0xAA ∷ 8 ∷ [])
+    → Calls κs κs′ at-two Request true true (lending (0xAA ∷ [])) (lending (replicate 11 9)) (Done (record { «correlation_id» = 7; fill = 9 })) (filled Request)
+    (lending (take 9 (filled Request))) (lending (8 ∷ 8 ∷ [])) (Hands handed (standsAt 9)) (0xAA ∷ 8 ∷ [])
 unfolding written chunks chunksFuel splice laid readAt absorb absorbFuel look payloadOf endOf frameWalk continuations walkFuel
 small-calls κs κs′ =
     record {
-      sendable = small-sendable;
+      sendable = small-sendable Request;
       fits = omega arith;
       writes = record { answers = refl; room-is = refl };
       lent-is = refl;
@@ -94,21 +97,21 @@ small-calls κs κs′ =
     }
 
 -- so it comes back
-pub small-back : (κs κs′ : Lfts 2) → ReadAgain at-two small (Done (record { «correlation_id» = 7; fill = 9 })) (8 ∷ 8 ∷ []) (Hands handed (standsAt 9)) (0xAA ∷ 8 ∷ [])
+pub small-back : (κs κs′ : Lfts 2) → ReadAgain at-two (small Request) (Done (record { «correlation_id» = 7; fill = 9 })) (8 ∷ 8 ∷ []) (Hands handed (standsAt 9)) (0xAA ∷ 8 ∷ [])
 small-back κs κs′ =
-    read-back κs κs′ at-two Request true true (lending (0xAA ∷ [])) (lending (replicate 11 9)) (Done (record { «correlation_id» = 7; fill = 9 })) filled
-    (lending (take 9 filled)) (lending (8 ∷ 8 ∷ [])) (Hands handed (standsAt 9)) (0xAA ∷ 8 ∷ []) (small-calls κs κs′) (λ u. omega (arith, u .size)) (omega arith)
+    read-back κs κs′ at-two Request true true (lending (0xAA ∷ [])) (lending (replicate 11 9)) (Done (record { «correlation_id» = 7; fill = 9 })) (filled Request)
+    (lending (take 9 (filled Request))) (lending (8 ∷ 8 ∷ [])) (Hands handed (standsAt 9)) (0xAA ∷ 8 ∷ []) (small-calls κs κs′) (λ u. omega (arith, u .size)) (omega arith)
 
--- the exported functions: type 1, flags 50; correlation and fill mark; then position, length, format byte, correlation, payload's length
+-- the exported functions: type 5, flags 50; correlation and fill mark; then position, length, format byte, correlation, payload's length
 -- and segments
 small-exported : (κs κs′ : Lfts 3)
-    → ExportedCalls κs κs′ 7 2 1 0x50 Request (lending (0xAA ∷ [])) (lending (replicate 11 9)) (lending (replicate 8 9)) 0 filled (0 ∷ 0 ∷ 7 ∷ 9 ∷ 0 ∷ 0 ∷ 0 ∷ 0 ∷ [])
-    (lending (take 9 filled)) (lending (8 ∷ 8 ∷ [])) (lending (replicate 9 9)) 0 (0xAA ∷ 8 ∷ []) (0 ∷ 9 ∷ 7 ∷ 0x51 ∷ 7 ∷ 1 ∷ 1 ∷ 0 ∷ 9 ∷ [])
+    → ExportedCalls κs κs′ 7 2 5 0x50 NoReply (lending (0xAA ∷ [])) (lending (replicate 11 9)) (lending (replicate 8 9)) 0 (filled NoReply) (0 ∷ 0 ∷ 7 ∷ 9 ∷ 0 ∷ 0 ∷ 0 ∷ 0 ∷ [])
+    (lending (take 9 (filled NoReply))) (lending (8 ∷ 8 ∷ [])) (lending (replicate 9 9)) 0 (0xAA ∷ 8 ∷ []) (0 ∷ 9 ∷ 7 ∷ 0x55 ∷ 7 ∷ 1 ∷ 1 ∷ 0 ∷ 9 ∷ [])
 unfolding written chunks chunksFuel splice laid readAt absorb absorbFuel look payloadOf endOf frameWalk continuations walkFuel
 small-exported κs κs′ =
     record {
       typed = refl;
-      sendable = small-sendable;
+      sendable = small-sendable NoReply;
       fits = omega arith;
       eight = omega arith;
       eight′ = omega arith;
@@ -117,10 +120,10 @@ small-exported κs κs′ =
       reads = record { answers = record { number-is = refl; words-are = refl }; room-is = refl };
     }
 
-pub small-in-words : (κs κs′ : Lfts 3) → ReadAgainInWords small 2 0 (0 ∷ 0 ∷ 7 ∷ 9 ∷ 0 ∷ 0 ∷ 0 ∷ 0 ∷ []) (8 ∷ 8 ∷ []) 0 (0 ∷ 9 ∷ 7 ∷ 0x51 ∷ 7 ∷ 1 ∷ 1 ∷ 0 ∷ 9 ∷ []) (0xAA ∷ 8 ∷ [])
+pub small-in-words : (κs κs′ : Lfts 3) → ReadAgainInWords (small NoReply) 2 0 (0 ∷ 0 ∷ 7 ∷ 9 ∷ 0 ∷ 0 ∷ 0 ∷ 0 ∷ []) (8 ∷ 8 ∷ []) 0 (0 ∷ 9 ∷ 7 ∷ 0x55 ∷ 7 ∷ 1 ∷ 1 ∷ 0 ∷ 9 ∷ []) (0xAA ∷ 8 ∷ [])
 small-in-words κs κs′ =
-    exported-read-back κs κs′ 7 2 1 0x50 Request (lending (0xAA ∷ [])) (lending (replicate 11 9)) (lending (replicate 8 9)) 0 filled (0 ∷ 0 ∷ 7 ∷ 9 ∷ 0 ∷ 0 ∷ 0 ∷ 0 ∷ [])
-    (lending (take 9 filled)) (lending (8 ∷ 8 ∷ [])) (lending (replicate 9 9)) 0 (0xAA ∷ 8 ∷ []) (0 ∷ 9 ∷ 7 ∷ 0x51 ∷ 7 ∷ 1 ∷ 1 ∷ 0 ∷ 9 ∷ []) (small-exported κs κs′)
+    exported-read-back κs κs′ 7 2 5 0x50 NoReply (lending (0xAA ∷ [])) (lending (replicate 11 9)) (lending (replicate 8 9)) 0 (filled NoReply) (0 ∷ 0 ∷ 7 ∷ 9 ∷ 0 ∷ 0 ∷ 0 ∷ 0 ∷ [])
+    (lending (take 9 (filled NoReply))) (lending (8 ∷ 8 ∷ [])) (lending (replicate 9 9)) 0 (0xAA ∷ 8 ∷ []) (0 ∷ 9 ∷ 7 ∷ 0x55 ∷ 7 ∷ 1 ∷ 1 ∷ 0 ∷ 9 ∷ []) (small-exported κs κs′)
     (λ u. omega (arith, u .size)) (omega arith)
 
 -- ---- a frame of 65,526 bytes, which is 32,761 plus 32,765
@@ -265,15 +268,15 @@ pair-answered room row h k r room-after row-after p =
 -- ---- the volume's layout
 
 -- what was laid down from the mark 2 to the mark 9
-pub small-laid-out : (κs κs′ : Lfts 2) → Dss (structureOf small) (part filled 2 9)
+pub small-laid-out : (κs κs′ : Lfts 2) → Dss (structureOf (small Request)) (part (filled Request) 2 9)
 small-laid-out κs κs′ =
-    laid-out κs at-two (record { «correlation_id» = 7; fill = 9 }) Request true true (lending (0xAA ∷ [])) (lending (replicate 11 9)) filled
-    (allowed-sent small small-sendable (λ e. refl)) (small-calls κs κs′ .writes)
+    laid-out κs at-two (record { «correlation_id» = 7; fill = 9 }) Request true true (lending (0xAA ∷ [])) (lending (replicate 11 9)) (filled Request)
+    (allowed-sent (small Request) (small-sendable Request) (λ e. refl)) (small-calls κs κs′ .writes)
 
-pub small-laid-words : (κs κs′ : Lfts 3) → LaidInWords (structureOf small) 2 (0 ∷ 0 ∷ 7 ∷ 9 ∷ 0 ∷ 0 ∷ 0 ∷ 0 ∷ []) filled
+pub small-laid-words : (κs κs′ : Lfts 3) → LaidInWords (structureOf (small NoReply)) 2 (0 ∷ 0 ∷ 7 ∷ 9 ∷ 0 ∷ 0 ∷ 0 ∷ 0 ∷ []) (filled NoReply)
 small-laid-words κs κs′ =
-    exported-laid-out κs 7 2 1 0x50 Request (lending (0xAA ∷ [])) (lending (replicate 11 9)) (lending (replicate 8 9)) filled (0 ∷ 0 ∷ 7 ∷ 9 ∷ 0 ∷ 0 ∷ 0 ∷ 0 ∷ [])
-    refl (allowed-sent small small-sendable (λ e. refl)) (omega arith) (small-exported κs κs′ .writes)
+    exported-laid-out κs 7 2 5 0x50 NoReply (lending (0xAA ∷ [])) (lending (replicate 11 9)) (lending (replicate 8 9)) (filled NoReply) (0 ∷ 0 ∷ 7 ∷ 9 ∷ 0 ∷ 0 ∷ 0 ∷ 0 ∷ [])
+    refl (allowed-sent (small NoReply) (small-sendable NoReply) (λ e. refl)) (omega arith) (small-exported κs κs′ .writes)
 
 -- `0007D0711234C1`, a chained request with same correlation and continue on error
 abbrev asked-frame : DssFrame

@@ -82,7 +82,7 @@ allBy heads s p = allFuelBy heads (suc (length s)) s p
 
 -- ---- the statements
 
--- "where the low four bits aren't 5"
+-- a type is read as with four types, where the low four bits aren't 5
 abbrev pub TypesAsFour : (ℕ → ℕ → TypeFound) → Type 0
 TypesAsFour types = (format place : ℕ) → (format % 16 ≡ 5 → ⊥) → types format place ≡ fourTypes format place
 
