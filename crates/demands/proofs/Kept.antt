@@ -31,7 +31,7 @@ use Rattle.dss_head.proofs.DssType.from_byte.Reads as from-byte
 use Rattle.dss_head.proofs.DssHeader.parse.Reads as parse
 use Rattle.dss_frame.specs.Written.{Sent, written}
 use Rattle.dss_frame.specs.Reading.{Frame, refused, readAt, positionAfter}
-use Rattle.dss_frame.specs.Frames.{frames, allFrames}
+use Rattle.dss_frame.specs.Frames.{frames, refusedAll, allFrames}
 use Rattle.dss_frame.specs.Records.{payloadsOf}
 use Rattle.dss_frame.specs.Salvage.{salvaged}
 use Rattle.dss_frame.specs.declared.DssFrame.{DssFrame}
@@ -67,7 +67,7 @@ use Rattle.gateway_salvage.proofs.lattrugone_salvage.Reads as lattrugone-salvag
 use Rattle.layouts.specs.DssLayout.{Structure, Allowed, Dss, FullLast}
 use Rattle.demands.specs.Demands.{Sendable, Unreadable, ReadsEverySize, Item, run}
 use Rattle.demands.specs.AllFrames.{AllAlone, joined}
-use Rattle.demands.specs.FourTypes.{fourTypes, fourHeads, readBy, TypesAsFour, typeFive, FiveAt, SameOrFive, HeadsAsFour, ReadsAsFour, AllAsFour}
+use Rattle.demands.specs.FourTypes.{fourTypes, fourHeads, readBy, allBy, TypesAsFour, FiveRefused, SameOrFive, HeadsAsFour, ReadsAsFour, AllAsFour}
 use Rattle.demands.specs.NoReply.{RefusesSpoilt}
 use Rattle.demands.specs.AsRead.{NoneFull, SalvagesAsRead, TellsWhy}
 use Rattle.demands.specs.Layouts.{structureOf, WritesLayout, ReadsLayout, ReadsFullLast, WaitsBehindFull, LayoutFixes}
@@ -85,13 +85,13 @@ use Rattle.demands.proofs.ReadBack.{reads-every-size}
 use Rattle.demands.proofs.AsRead.{salvages-as-read, tells-why}
 use Rattle.demands.proofs.AsReadCalls.{as-read-words}
 use Rattle.demands.proofs.FourTypes.{types-as-four, heads-as-four, reads-as-four, all-as-four}
-use Rattle.demands.proofs.FourTypesCalls.{from-byte-four, parse-four, next-frame-four, words-four}
+use Rattle.demands.proofs.FourTypesCalls.{from-byte-four, parse-four, next-frame-four, words-four, all-words-four}
 use Rattle.demands.proofs.SpoiltFrames.{refuses-spoilt}
 use Rattle.demands.proofs.ReaderKeeps.{payloads, AllBack}
 use Rattle.demands.proofs.ReaderClauses.{read-all-frames-back}
 use Rattle.demands.proofs.SalvageKeeps.{allBytes, Recovered}
 use Rattle.demands.proofs.SalvageClauses.{salvage-recovers, salvage-refuses}
-use Rattle.demands.proofs.KeptMeaning.{behind, ReadAgain, NotReadAgain, ReadAgainInWords, NotReadAgainInWords, AllBackInWords, RecoveredInWords, RefusedInWords, SameInWords, StructureBack, StructureBackInWords, LaidInWords, notYet, RefusedAs, AnsweredAs, AnsweredInWordsAs}
+use Rattle.demands.proofs.KeptMeaning.{behind, ReadAgain, NotReadAgain, ReadAgainInWords, NotReadAgainInWords, AllBackInWords, RecoveredInWords, RefusedInWords, SameInWords, StructureBack, StructureBackInWords, LaidInWords, notYet, RefusedAs, AnsweredAs, AnsweredInWordsAs, AllAnsweredInWordsAs}
 use Rattle.demands.proofs.KeptFrame.{read-again, not-read-again, read-again-words, not-read-again-words}
 use Rattle.demands.proofs.KeptLayouts.{laid-in-words, structure-back, full-last}
 use Rattle.demands.proofs.KeptRows.{frames-back-words, recovers-words}
@@ -293,14 +293,21 @@ head-as-rust κs bytes r p = parse-four κs bytes r p
 pub next-frame-as-rust : (κs : Lfts 2) (reader : DssReader) (s room : RefT (List ℕ)) (r : FrameRead) (after : List ℕ)
     → next-frame.Post κs (reader, (s, (room, tt))) r (reader, (s, (at-last room after, tt)))
     → AnsweredAs (s .now) (reader .position) (room .now) (readBy fourHeads (s .now) (reader .position)) r after
-    ⊎ record { q : ℕ; five : FiveAt (s .now) q; is : readBy fourHeads (s .now) (reader .position) ≡ refused (typeFive q) }
+    ⊎ FiveRefused (s .now) refused (readBy fourHeads (s .now) (reader .position))
 next-frame-as-rust κs reader s room r after p = next-frame-four (s .now) (reader .position) (room .now) r after p
 
 pub exported-next-frame-as-rust : (κs : Lfts 3) (s : RefT (List ℕ)) (at : ℕ) (room words : RefT (List ℕ)) (number : ℕ) (after answer : List ℕ)
     → lattrugone-next-frame.Post κs (s, (at, (room, (words, tt)))) number (s, (at, (at-last room after, (at-last words answer, tt))))
     → AnsweredInWordsAs (s .now) at (room .now) (words .now) (readBy fourHeads (s .now) at) number after answer
-    ⊎ record { q : ℕ; five : FiveAt (s .now) q; is : readBy fourHeads (s .now) at ≡ refused (typeFive q) }
+    ⊎ FiveRefused (s .now) refused (readBy fourHeads (s .now) at)
 exported-next-frame-as-rust κs s at room words number after answer p = words-four (s .now) at (room .now) (words .now) number after answer p
+
+pub exported-all-frames-as-rust : (κs : Lfts 4) (s : RefT (List ℕ)) (at : ℕ) (room row words : RefT (List ℕ)) (number : ℕ) (room-after row-after answer : List ℕ)
+    → lattrugone-read-all-frames.Post κs (s, (at, (room, (row, (words, tt))))) number (s, (at, (at-last room room-after, (at-last row row-after, (at-last words answer, tt)))))
+    → AllAnsweredInWordsAs (s .now) at (room .now) (row .now) (words .now) (allBy fourHeads (s .now) at) number room-after row-after answer
+    ⊎ FiveRefused (s .now) refusedAll (allBy fourHeads (s .now) at)
+exported-all-frames-as-rust κs s at room row words number room-after row-after answer p =
+    all-words-four (s .now) at (room .now) (row .now) (words .now) number room-after row-after answer p
 
 -- ---- When a frame may be taken while bytes still come in: once a whole frame stands behind it, by `has_complete_frame`. Then no bytes
 -- that follow change it; and waiting for that loses nothing that was read.

@@ -12,6 +12,7 @@ use Rattle.dss_head.specs.Heads.{typeAt, flagsOf}
 use Rattle.dss_head.specs.declared.DssFlags.{DssFlags}
 use Rattle.dss_head.specs.declared.TypeFound.the-variants.{Is}
 use Rattle.dss_frame.specs.Reading.{Frame, Read}
+use Rattle.dss_frame.specs.Frames.{AllRead}
 use Rattle.dss_frame.specs.Records.{recordOf}
 use Rattle.dss_frame.specs.Written.{Sent, written}
 use Rattle.dss_frame.specs.declared.DssFrame.{DssFrame}
@@ -19,11 +20,13 @@ use Rattle.dss_writer.specs.declared.DssWriter.{DssWriter}
 use Rattle.dss_writer.specs.declared.Wrote.{Wrote}
 use Rattle.dss_writer.specs.declared.Wrote.the-variants.{Done}
 use Rattle.dss_take.specs.Take.{roomRead}
-use Rattle.dss_reader.specs.Reader.{standsAt, given}
+use Rattle.dss_reader.specs.Reader.{standsAt, given, givenAll, roomAll}
 use Rattle.dss_reader.specs.declared.FrameRead.{FrameRead}
 use Rattle.dss_reader.specs.declared.FrameRead.the-variants.{Frame as Hands, Refused as NotRead}
 use Rattle.gateway_words.specs.Words.{refusalWords, doneWords, Answered}
 use Rattle.gateway_reader.specs.ReaderWords.{frameWords}
+use Rattle.gateway_frames.specs.FramesWords.{framesWords, rowWords}
+use Rattle.gateway_row.specs.RowWords.{places}
 use Rattle.gateway_row.specs.RecordBack.{eights}
 use Rattle.layouts.specs.DssLayout.{Structure, Dss}
 use Rattle.demands.specs.Demands.{Item, good, spoilt, run, bytesOf}
@@ -148,6 +151,12 @@ pub record AnsweredAs (s : List ℕ) (p : ℕ) (room : List ℕ) (read : Read) (
 pub record AnsweredInWordsAs (s : List ℕ) (p : ℕ) (room words : List ℕ) (read : Read) (number : ℕ) (after answer : List ℕ) : Type 0 where
   pub answer-is : Answered (frameWords (given s p (length room) read)) words number answer
   pub room-is : after ≡ roomRead s room read
+
+-- the same of all frames
+pub record AllAnsweredInWordsAs (s : List ℕ) (p : ℕ) (room row words : List ℕ) (read : AllRead) (number : ℕ) (room-after row-after answer : List ℕ) : Type 0 where
+  pub answer-is : Answered (framesWords (givenAll s p (length room) (places row) read)) words number answer
+  pub room-is : room-after ≡ roomAll s room (places row) read
+  pub row-is : row-after ≡ rowWords s (length room) row read
 
 -- ---- all frames, in words
 

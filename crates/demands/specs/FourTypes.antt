@@ -94,9 +94,13 @@ pub record FiveAt (s : List ℕ) (q : ℕ) : Type 0 where
   pub magic : getD s (q + 2) 0 ≡ 0xD0
   pub type : getD s (q + 3) 0 % 16 ≡ 5
 
--- the same, or what the four-type reading gives is that refusal
+-- what a four-type reading gives is that refusal
+abbrev pub FiveRefused : {A : Type 0} → List ℕ → (Refused → A) → A → Type 0
+FiveRefused s refuses four = record { q : ℕ; five : FiveAt s q; is : four ≡ refuses (typeFive q) }
+
+-- the same as the four-type reading, unless it gives that
 abbrev pub SameOrFive : {A : Type 0} → List ℕ → (Refused → A) → A → A → Type 0
-SameOrFive s refuses ours four = (ours ≡ four) ⊎ record { q : ℕ; five : FiveAt s q; is : four ≡ refuses (typeFive q) }
+SameOrFive s refuses ours four = (ours ≡ four) ⊎ FiveRefused s refuses four
 
 abbrev pub HeadsAsFour : Heads → Type 0
 HeadsAsFour heads = (s : List ℕ) (p : ℕ) → SameOrFive s Refuses (heads s p) (fourHeads s p)
