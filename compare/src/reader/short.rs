@@ -140,7 +140,7 @@ pub fn three(tally: &mut Tally, held: &mut Held) {
     }
 }
 
-/// Three types, the last also none; of type 5 those behind which or behind whose first one it could be absorbed or look so.
+/// Three types, the last also none; with type 5 those where something could be absorbed behind it, or it behind another.
 fn every_type() -> impl Iterator<Item = (u8, u8, u8)> {
     let all = (0..5 * 5 * 6).map(|n| (1 + n % 5, 1 + n / 5 % 5, 1 + n / 25));
     all.filter(|(a, b, c)| match (a, b) {
