@@ -152,9 +152,10 @@ fn serialized(tally: &mut Tally, lent: &mut Buffers) {
             serialize(tally, lent, head, room, 8);
         }
         let bytes = lent.room.part(0, 6).to_vec();
-        let of_port = DssHeader::parse(&bytes);
-        let of_rust = head_of(head).and_then(|bytes| DssHeader::parse(&bytes));
-        tally.same("head_serialize, read", &bytes, of_port, of_rust);
+        let written = head_of(head).expect("a type");
+        let (by, due) = head_words(&written);
+        let read = head_words(&bytes).1;
+        tally.held(by, "head_serialize, read", &bytes, read, due);
         parse(tally, lent, &bytes, 8);
     }
     for number in 0..=u16::MAX {

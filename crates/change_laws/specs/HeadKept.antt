@@ -10,17 +10,17 @@ use lib.Dec.{eqb, ltb}
 use lib.ListN.{length, getD}
 use Rattle.wire.specs.Bytes.{pick, be16, two, part}
 use Rattle.wire.specs.Laws.{by, pick-yes, pick-no, picked}
-use Rattle.answer.specs.declared.Refused.{Refused}
 use Rattle.wire.specs.Octets.{Octets, octets-tested}
 use Rattle.dss_head.specs.Heads.{typeAt, typeByte, bit, flagsOf, flagsByte, headWith, headAt, lengthOf}
 use Rattle.dss_head.specs.Types.{type-read}
+use Rattle.dss_head.specs.HeadLaws.{found-refused}
 use Rattle.dss_head.specs.declared.DssType.{DssType}
 use Rattle.dss_head.specs.declared.DssType.the-variants.{Request}
 use Rattle.dss_head.specs.declared.DssFlags.{DssFlags}
 use Rattle.dss_head.specs.declared.DssHeader.{DssHeader}
 use Rattle.dss_head.specs.declared.TypeFound.{TypeFound}
 use Rattle.dss_head.specs.declared.TypeFound.the-variants.{Is, Refused as NoType}
-use Rattle.dss_head.specs.declared.HeadFound.the-variants.{Head, Refused as Refuses}
+use Rattle.dss_head.specs.declared.HeadFound.the-variants.{Head}
 use Rattle.dss_frame.specs.Written.{Sent, headOf, written}
 use Rattle.ddm_change.specs.Outlay.{rawFirst, outlaid}
 use Rattle.ddm_change.specs.Reframing.{written-is, reframed-is}
@@ -40,9 +40,6 @@ weigh w b =
   where
     to : (n m : ℕ) → b / w % 2 ≡ n → m ≡ w * n → m ≡ w * (b / w % 2)
     to n m e f = f ∙ ap (λ (k : ℕ). w * k) (sym e)
-
-never : {P : Type 0} {r : Refused} {h : DssHeader} → Refuses r ≡ Head h → P
-never e = absurd (let z : _≡_ {A = ℕ} 0 1 = cc in omega arith)
 
 -- without continue on error and 0x80: the type and the other two flags
 abbrev flagsKept : ℕ → DssFlags
@@ -96,16 +93,16 @@ module _ (s : List ℕ) where
 pub head-kept : (s : List ℕ) (h : DssHeader) → Octets s → headAt s 0 ≡ Head h → h .flags .«continue_on_error» ≡ false → bit 0x80 (getD s 3 0) ≡ false
     → (payload : List ℕ) → reframed s payload ≡ written (sentOf h payload)
 head-kept s h o e c d payload =
-    picked (ltb (length s - 0) 6) e (λ _ k. never k) (λ t e.
+    picked (ltb (length s - 0) 6) e (λ _ k. absurd (found-refused h _ (sym k))) (λ t e.
     picked (eqb (getD s 2 0) 0xD0) e
-    (λ u k. go (omega (arith, ltb-false (length s - 0) 6 t)) (eqb-true (getD s 2 0) 0xD0 u) (typeAt (getD s 3 0) 0) refl k) (λ _ k. never k))
+    (λ u k. go (omega (arith, ltb-false (length s - 0) 6 t)) (eqb-true (getD s 2 0) 0xD0 u) (typeAt (getD s 3 0) 0) refl k) (λ _ k. absurd (found-refused h _ (sym k))))
   where
     go : 6 ≤ length s → getD s 2 0 ≡ 0xD0 → (x : TypeFound) → typeAt (getD s 3 0) 0 ≡ x → headWith s 0 x ≡ Head h
         → reframed s payload ≡ written (sentOf h payload)
     go six m (Is t) q k =
         let w : headWas s t ≡ h = cc in
         kept s t o six m q (ap (λ (x : DssHeader). x .flags .«continue_on_error») w ∙ c) d payload ∙ ap (λ (x : DssHeader). written (sentOf x payload)) w
-    go six m (NoType r) q k = never k
+    go six m (NoType r) q k = absurd (found-refused h r (sym k))
 
 -- ---- met, and needed
 

@@ -27,6 +27,7 @@ use Rattle.demands.specs.Table.{p2}
 use Rattle.demands.specs.FourTypes.{fourTypes, Heads, fourHeads, lookBy, absorbBy, readHeadBy, readBy, allFuelBy, allBy, TypesAsFour, typeFive, FiveAt, SameOrFive, HeadsAsFour, ReadsAsFour, AllAsFour}
 use Rattle.demands.proofs.LongerRuns.{picks}
 use Rattle.demands.proofs.Impostors.{frame-refused}
+use Rattle.demands.proofs.LayoutExamples.{unanswered}
 
 -- ---- types and heads
 
@@ -55,24 +56,27 @@ module _ (At : List ℕ → ℕ → Type 0) (heads : Heads) where
   abbrev Same : {A : Type 0} → List ℕ → (Refused → A) → A → A → Type 0
   Same s refusal ours other = (ours ≡ other) ⊎ record { q : ℕ; five : At s q; is : other ≡ refusal (typeFive q) }
 
+  -- what is made alike of what is read, by functions that pass that refusal on
+  passed : {A B : Type 0} (s : List ℕ) (no-a : Refused → A) (no-b : Refused → B) (f g : A → B) → ((x : A) → Same s no-b (f x) (g x)) → ((q : ℕ) → g (no-a (typeFive q)) ≡ no-b (typeFive q))
+      → (x y : A) → Same s no-a x y → Same s no-b (f x) (g y)
+  passed {A} s no-a no-b f g alike on x y (inl e) = subst (λ (z : A). Same s no-b (f x) (g z)) e (alike x)
+  passed s no-a no-b f g alike on x y (inr r) = inr (record { q = r .q; five = r .five; is = ap g (r .is) ∙ on (r .q) })
+
   module _ (heads-same : (s : List ℕ) (p : ℕ) → Same s Refuses (headAt s p) (heads s p)) (s : List ℕ) where
     look-same : (t : DssType) (extended : Bool) (q : ℕ) → Same s refuses (look Reader s t extended q) (lookBy heads s t extended q)
     unfolding look lookBy
-    look-same t extended q = picks (Same s refuses) (ltb (length s - q) 6) _ refl (λ _. inl refl) (λ _. go (heads-same s q))
-      where
-        go : Same s Refuses (headAt s q) (heads s q) → Same s refuses (lookAt Reader s t extended q (headAt s q)) (lookAt Reader s t extended q (heads s q))
-        go (inl e) = inl (ap (lookAt Reader s t extended q) e)
-        go (inr f) = inr (record { q = f .q; five = f .five; is = ap (lookAt Reader s t extended q) (f .is) })
+    look-same t extended q =
+        picks (Same s refuses) (ltb (length s - q) 6) _ refl (λ _. inl refl)
+        (λ _. passed s Refuses refuses (lookAt Reader s t extended q) (lookAt Reader s t extended q) (λ _. inl refl) (λ _. refl) _ _ (heads-same s q))
 
     behind-same : (h : DssHeader) (gs : List Segment) (l m : Look) (more more′ : DssHeader → List Segment → Read) → Same s refuses l m
         → ((h′ : DssHeader) (gs′ : List Segment) → Same s refused (more h′ gs′) (more′ h′ gs′)) → Same s refused (behindFrame h gs l more) (behindFrame h gs m more′)
-    behind-same h gs l m more more′ (inl e) on = subst (λ (x : Look). Same s refused (behindFrame h gs l more) (behindFrame h gs x more′)) e (go l)
+    behind-same h gs l m more more′ e on = passed s refuses refused (λ (x : Look). behindFrame h gs x more) (λ (x : Look). behindFrame h gs x more′) go (λ _. refl) l m e
       where
         go : (x : Look) → Same s refused (behindFrame h gs x more) (behindFrame h gs x more′)
         go finished = inl refl
         go (absorbs g c) = on (withChained h c) (gs ++ (g ∷ []))
         go (refuses r) = inl refl
-    behind-same h gs l m more more′ (inr f) on = inr (record { q = f .q; five = f .five; is = ap (λ (x : Look). behindFrame h gs x more′) (f .is) })
 
     absorb-same : (fuel p : ℕ) (h : DssHeader) (gs : List Segment) → Same s refused (absorbFuel fuel Reader s p h gs) (absorbBy heads fuel s p h gs)
     unfolding absorbFuel absorbBy
@@ -80,16 +84,15 @@ module _ (At : List ℕ → ℕ → Type 0) (heads : Heads) where
     absorb-same (suc fuel) p h gs =
         behind-same h gs _ _ _ _ (look-same (h .«dss_type») (startsExtended (payloadOf s gs)) (endOf p gs)) (λ h′ gs′. absorb-same fuel p h′ gs′)
 
-    head-same : (p : ℕ) (gs : List Segment) (x y : HeadFound) → Same s Refuses x y → Same s refused (readHead Reader s p gs x) (readHeadBy heads s p gs y)
+    head-same : (p : ℕ) (gs : List Segment) → Same s refused (readHead Reader s p gs (headAt s p)) (readHeadBy heads s p gs (heads s p))
     unfolding absorb
-    head-same p gs x y (inl e) = subst (λ (z : HeadFound). Same s refused (readHead Reader s p gs x) (readHeadBy heads s p gs z)) e (go x)
+    head-same p gs = passed s Refuses refused (readHead Reader s p gs) (readHeadBy heads s p gs) go (λ _. refl) _ _ (heads-same s p)
       where
-        go : (z : HeadFound) → Same s refused (readHead Reader s p gs z) (readHeadBy heads s p gs z)
+        go : (x : HeadFound) → Same s refused (readHead Reader s p gs x) (readHeadBy heads s p gs x)
         go (Refuses r) = inl refl
         go (Head h) =
             picks (Same s refused) (ltb (be16 s p) 6) _ refl (λ _. inl refl)
             (λ _. picks (Same s refused) (eqb (be16 s p) 0xFFFF) _ refl (λ _. inl refl) (λ _. absorb-same (length s) p h gs))
-    head-same p gs x y (inr f) = inr (record { q = f .q; five = f .five; is = ap (readHeadBy heads s p gs) (f .is) })
 
     read-same : (p : ℕ) → Same s refused (readAt Reader s p) (readBy heads s p)
     unfolding readAt readBy
@@ -98,24 +101,19 @@ module _ (At : List ℕ → ℕ → Type 0) (heads : Heads) where
         go : (w : Walk) → Same s refused (readWalk Reader s p w) (ifWhole p refused (λ gs. readHeadBy heads s p gs (heads s p)) w)
         go short = inl refl
         go (dead q) = inl refl
-        go (whole gs) = head-same p gs (headAt s p) (heads s p) (heads-same s p)
+        go (whole gs) = head-same p gs
 
-    on-same : (p : ℕ) (x y : Read) (more more′ : ℕ → AllRead) → Same s refused x y → ((q : ℕ) → Same s refusedAll (more q) (more′ q)) → Same s refusedAll (andOn p x more) (andOn p y more′)
-    on-same p x y more more′ (inl e) on = subst (λ (z : Read). Same s refusedAll (andOn p x more) (andOn p z more′)) e (go x)
+    on-same : (p : ℕ) (more more′ : ℕ → AllRead) → ((q : ℕ) → Same s refusedAll (more q) (more′ q)) → Same s refusedAll (andOn p (readAt Reader s p) more) (andOn p (readBy heads s p) more′)
+    on-same p more more′ on = passed s refused refusedAll (λ (x : Read). andOn p x more) (λ (x : Read). andOn p x more′) go (λ _. refl) _ _ (read-same p)
       where
-        go : (z : Read) → Same s refusedAll (andOn p z more) (andOn p z more′)
+        go : (x : Read) → Same s refusedAll (andOn p x more) (andOn p x more′)
         go (refused r) = inl refl
-        go (frame f) = after (on (endOf p (f .segments)))
-          where
-            after : {a b : AllRead} → Same s refusedAll a b → Same s refusedAll (before f a) (before f b)
-            after (inl e) = inl (ap (before f) e)
-            after (inr g) = inr (record { q = g .q; five = g .five; is = ap (before f) (g .is) })
-    on-same p x y more more′ (inr f) on = inr (record { q = f .q; five = f .five; is = ap (λ (z : Read). andOn p z more′) (f .is) })
+        go (frame f) = passed s refusedAll refusedAll (before f) (before f) (λ _. inl refl) (λ _. refl) _ _ (on (endOf p (f .segments)))
 
     fuel-same : (fuel p : ℕ) → Same s refusedAll (framesFuel fuel s p) (allFuelBy heads fuel s p)
     unfolding framesFuel allFuelBy
     fuel-same zero p = inl refl
-    fuel-same (suc fuel) p = on-same p _ _ _ _ (read-same p) (λ q. fuel-same fuel q)
+    fuel-same (suc fuel) p = on-same p _ _ (λ q. fuel-same fuel q)
 
     all-same : (p : ℕ) → Same s refusedAll (allFrames s p) (allBy heads s p)
     unfolding allFrames allBy
@@ -144,14 +142,11 @@ all-by-five s p = never refusedAll s _ _ (all-same nowhere headAt (λ _ _. inl r
 
 -- ---- met: `0006D0050007` the four-type reading refuses, so at an object's place behind a reply; `0006D0020007` both read
 
-unanswered : List ℕ
-unanswered = 0x00 ∷ 0x06 ∷ 0xD0 ∷ 0x05 ∷ 0x00 ∷ 0x07 ∷ []
-
 met : (readBy fourHeads unanswered 0 ≡ refused (typeFive 0))
     × (readBy fourHeads (p2 ++ unanswered) 0 ≡ refused (typeFive 6))
     × (allBy fourHeads (p2 ++ unanswered) 0 ≡ refusedAll (typeFive 6))
     × (readBy fourHeads p2 0 ≡ readAt Reader p2 0)
-unfolding unanswered readAt absorb absorbFuel look readBy absorbBy lookBy allBy allFuelBy payloadOf endOf frameWalk continuations walkFuel
+unfolding readAt absorb absorbFuel look readBy absorbBy lookBy allBy allFuelBy payloadOf endOf frameWalk continuations walkFuel
 met = (refl, refl, refl, refl)
 
 types-met : (0xF4 % 16 ≡ 5 → ⊥) × (typeAt 0xF4 0 ≡ Is Communication) × (fourTypes 0xF4 0 ≡ Is Communication)

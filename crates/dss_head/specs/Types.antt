@@ -1,7 +1,7 @@
 -- The laws of types. What is proved by going through the types one by one is proved here, and cited elsewhere.
 use Prim.Native.Nat.{ℕ, _%_, _≤_}
 use native.Mathlib.Omega.{arith}
-use mathlib.Core.Path.{_≡_, refl, ap, _∙_}
+use mathlib.Core.Path.{_≡_, refl, sym, ap, _∙_}
 use mathlib.Core.Bool.{Bool, true}
 use lib.Dec.{leb, eqb}
 use borrow.Author.Tests.{leb-true, eqb-true, eqb-false}
@@ -67,6 +67,16 @@ type-range t = (
   leb-true 1 (typeByte t) (every-type (λ (u : DssType). leb 1 (typeByte u)) refl t),
   leb-true (typeByte t) lastType (every-type (λ (u : DssType). leb (typeByte u) lastType) refl t),
 )
+
+-- types are equal where their numbers are
+pub type-same : (t u : DssType) → typeByte t ≡ typeByte u → t ≡ u
+type-same t u e =
+    let low : typeByte t % 16 ≡ typeByte t = omega (arith, type-range t) in
+    let z : Is t ≡ Is u = sym (type-back t (typeByte t) 0 low) ∙ type-back u (typeByte t) 0 (low ∙ e) in
+    cc
+
+type-same-met : typeByte NoReply ≡ typeByte NoReply
+type-same-met = refl
 
 -- the low four bits of a byte that says a type are its number
 pub type-read : (b place : ℕ) (t : DssType) → typeAt b place ≡ Is t → b % 16 ≡ typeByte t
