@@ -179,7 +179,7 @@ uint8_t lattrugone_head_serialize(uint16_t length, uint8_t dss_type, uint8_t fla
  * has one that is finished, its bytes being the room's first `fill` bytes. */
 
 /* How many bytes a frame with such a payload takes: 6 and the payload, and 2 for each 32,765 bytes or part of them above 32,761;
- * 2^64 - 1 where that is more. */
+ * 2^64 - 1 where that is more. Its time doesn't grow with the length. */
 size_t lattrugone_frame_size(size_t payload_len);
 
 /* The next correlation: 0 after 65,535. */

@@ -1,6 +1,6 @@
 //! bench [REPEATS] [ONLY]: times each call of the port beside the Rust's on the same input, in turn, and prints the ratio of
 //! the fastest of REPEATS repeats, a quarter of that on 4 MB; last `worst R`, the worst ratio. ONLY picks the lines with that
-//! word.
+//! word. The line of `frame_size` has no ratio.
 //!
 //! What is timed. Of the Rust, the call with the results that it allocates and their release, which is what its user pays; a
 //! reader owns its bytes, and is made just before. Of the port, the call, which lays its results into lent room; input, room,
@@ -13,6 +13,7 @@ mod frames;
 mod inputs;
 mod lines;
 mod objects;
+mod sizes;
 
 use frames::{next_frame, read_all_frames, write};
 use lattrugone::port::Words;
@@ -75,6 +76,9 @@ const PLAN: [Plan; 18] = [
     ("change a request with 40 parameters", change::request),
 ];
 
+/// What the Rust has no call for, and no way of doing that a ratio could be to.
+const SIZE: &str = "frame_size of 4 MB";
+
 /// What is timed on 1 MB and on 4 MB.
 const GROWING: [&str; 2] = ["next_frame", "read_all_frames"];
 
@@ -89,6 +93,9 @@ fn main() {
         line.print();
         lines.push(line);
     }
+    if SIZE.contains(&only) {
+        sizes::print_frame_size(SIZE, repeats);
+    }
     for call in GROWING {
         let of = |size: &str| {
             lines
@@ -99,8 +106,7 @@ fn main() {
             print_growth(call, small, large);
         }
     }
-    println!(
-        "worst {:.2}",
-        lines.iter().map(Line::ratio).fold(0.0, f64::max)
-    );
+    if let Some(worst) = lines.iter().map(Line::ratio).reduce(f64::max) {
+        println!("worst {worst:.2}");
+    }
 }

@@ -53,6 +53,7 @@ static void heads_and_writer(void)
     ANSWERS(FEW, lattrugone_head_parse(b, 0, w, n));
     ANSWERS(NO_ROOM, lattrugone_head_serialize(6, 1, 0, 1, b, 0, w, n));
     IS(32770, lattrugone_frame_size(32762));
+    IS(SIZE_MAX, lattrugone_frame_size(SIZE_MAX));
     IS(0, lattrugone_next_correlation_id(65535));
     ANSWERS(NO_ROOM, lattrugone_write_dss_full(1, 0, 1, 0, b, 0, b, 0, w, n));
     ANSWERS(NO_ROOM, lattrugone_write_dss(1, 0, 1, 0, b, 0, b, 0, w, n));

@@ -133,7 +133,7 @@ impl Tally {
             "compare: {rust} held to the running Rust, {model} to the salvage reading's model"
         );
         println!(
-            "compare: besides, {} held to documents 01 and 02 alone: 7 to 10, 16, what is beyond a run or 2^64 - 1, demand 3",
+            "compare: besides, {} held to documents 01 and 02 alone: 7 to 10, 16, what is beyond a run, memory or 2^64 - 1, demand 3",
             self.document
         );
         println!(

@@ -3,6 +3,7 @@ mod both;
 pub mod call;
 mod case;
 pub mod record;
+mod sizes;
 
 use crate::port;
 use crate::{Chance, Tally};
@@ -28,6 +29,7 @@ const ROOM: usize = MOST + 4096;
 pub fn compare(tally: &mut Tally, chance: &mut Chance, cases: u64) {
     let mut held = Held::new(chance);
     numbers(tally, &held.bytes);
+    sizes::compare(tally, chance, cases);
     lengths(tally, &mut held, chance);
     bytes_as_numbers(tally, &mut held, chance);
     marks(tally, &mut held);
@@ -59,8 +61,8 @@ fn numbers(tally: &mut Tally, bytes: &[u8]) {
     for len in (0..EDGES[1] + 64).chain(around_edges()) {
         let mut writer = DssWriter::new(7);
         writer.write_request(&bytes[..len], false);
-        let (port, rust) = (port::frame_size(len), writer.data().len());
-        tally.same("frame_size", &len.to_be_bytes(), port, rust);
+        let rust = writer.data().len();
+        sizes::hold_to_rust(tally, len, rust);
     }
 }
 

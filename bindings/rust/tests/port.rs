@@ -122,6 +122,11 @@ fn every_continuation_length() {
 
 #[test]
 fn sizes_above_all() {
+    // The longest payload whose frame is no longer than 2^64 - 1 bytes, and its neighbours.
+    let longest = 18_445_618_139_441_922_009;
+    assert_eq!(port::frame_size(longest - 1), usize::MAX - 1);
+    assert_eq!(port::frame_size(longest), usize::MAX);
+    assert_eq!(port::frame_size(longest + 1), usize::MAX);
     assert_eq!(port::frame_size(usize::MAX), usize::MAX);
     assert_eq!(port::object_total_length(usize::MAX), usize::MAX);
     assert_eq!(port::builder_total_length(2_147_483_643), 2_147_483_651);

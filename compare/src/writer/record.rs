@@ -1,6 +1,7 @@
 //! Module 2's answers for the list.
 use super::call::{and_no_type, every_call, Call};
 use super::case::Case;
+use super::sizes::{due, LONGEST};
 use crate::record::{counted, Asked, List, FEW_WORDS};
 use db2_proto::dss::DssWriter;
 use Call::*;
@@ -105,7 +106,7 @@ fn few_words(list: &mut List) {
     }
 }
 
-/// The next correlation, and what frames take: the Rust's, and above 2^64 - 1 "as that".
+/// The next correlation, and what frames take: the Rust's, and of payloads that it isn't given the documents'.
 fn numbers(list: &mut List) {
     for id in [0, 1, 255, 256, 32767, 32768, 65534, 65535] {
         let next = DssWriter::new(id).next_correlation_id();
@@ -117,7 +118,8 @@ fn numbers(list: &mut List) {
         let size = writer.data().len() as u64;
         list.number(Asked::new(34, &[len as u64], &[]), size);
     }
-    for len in [u64::MAX - 5, u64::MAX] {
-        list.number(Asked::new(34, &[len], &[]), u64::MAX);
+    let edge = LONGEST - 1..=LONGEST + 1;
+    for len in edge.chain([4 << 20, u64::MAX - 5, u64::MAX]) {
+        list.number(Asked::new(34, &[len], &[]), due(len));
     }
 }

@@ -1,5 +1,5 @@
 -- Document 01, "Both sides of each edge", computed at their real sizes, and the same under salvage's rules, which W-205 changes at one.
-use Prim.Native.Nat.{ℕ, _+_}
+use Prim.Native.Nat.{ℕ, _+_, _-_, _^_}
 use mathlib.Core.Path.{_≡_, refl}
 use mathlib.Core.Bool.{false}
 use mathlib.Core.List.{List, [], _∷_}
@@ -65,6 +65,11 @@ edge-65526 = refl
 pub edge-65527 : edge 65527 ≡ record { size = 65537; room = 65537; first = 0xFFFF; second = 0xFFFF; third = 0x0003; read = 0 ∷ 65527 ∷ 65537 ∷ []; salvage = 0 ∷ 65527 ∷ 65537 ∷ [] }
 unfolding edge edgeOf answer full frameSize written chunks chunksFuel readAt absorb absorbFuel look payloadOf endOf frameWalk continuations walkFuel
 edge-65527 = refl
+
+-- "a need above 2^64 - 1 is given as that": the longest payload whose frame has a size below 2^64, and one byte more (W-206)
+pub edge-capped : (frameSize 18445618139441922009 ≡ 2 ^ 64 - 1) × (frameSize 18445618139441922010 ≡ 2 ^ 64)
+unfolding frameSize
+edge-capped = (refl, refl)
 
 -- "Data 32,764: 80 08, code point, 00 00 7F FC, 32,772 bytes"; and one byte less, inline
 pub edge-32764 : (take 8 (built 0x2412 (replicate 32764 0xC1)) ≡ 0x80 ∷ 0x08 ∷ 0x24 ∷ 0x12 ∷ 0x00 ∷ 0x00 ∷ 0x7F ∷ 0xFC ∷ []) × (length (built 0x2412 (replicate 32764 0xC1)) ≡ 32772)

@@ -40,7 +40,7 @@ written f =
     (headBytes (headOf f (length (f .payload) + 6)) ++ f .payload)
     (headBytes (headOf f 0xFFFF) ++ (take 32761 (f .payload) ++ chunks (drop 32761 (f .payload))))
 
--- The room that a frame needs, of its payload's length: the head's six bytes, the payload, and two bytes for each
--- continuation, of which there is one for each 32,765 bytes above 32,761, or part of them.
+-- W-206, the room that a frame needs, of its payload's length: "6 plus the payload, plus 2 for each 32,765 bytes or part of them
+-- above 32,761"
 unfoldable pub frameSize : ℕ → ℕ
 frameSize n = 6 + n + 2 * ((n - 32761 + 32764) / 32765)

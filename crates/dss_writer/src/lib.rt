@@ -52,13 +52,10 @@ pub fn frame_size(payload_len: usize) -> usize
     if payload_len <= DSS_FIRST_PAYLOAD_LEN {
         return payload_len + DSS_HEADER_LEN;
     }
-    let mut left = payload_len - DSS_FIRST_PAYLOAD_LEN;
-    // The head's six bytes, and two of the last continuation.
-    let mut framing: usize = 8;
-    while DSS_CONTINUATION_PAYLOAD_LEN < left {
-        left -= DSS_CONTINUATION_PAYLOAD_LEN;
-        framing += DSS_CONTINUATION_HEADER_LEN;
-    }
+    let above = payload_len - DSS_FIRST_PAYLOAD_LEN;
+    // One for each 32,765 bytes or part of them. To add 32,764 before the division instead would wrap from 2^64 - 3 on.
+    let continuations = (above - 1) / DSS_CONTINUATION_PAYLOAD_LEN + 1;
+    let framing = DSS_HEADER_LEN + DSS_CONTINUATION_HEADER_LEN * continuations;
     if usize::MAX - framing < payload_len {
         return usize::MAX;
     }
