@@ -6,6 +6,7 @@ use mathlib.Core.List.{List, [], _∷_}
 use lib.ListN.{length, replicate, take}
 use Rattle.wire.specs.Bytes.{be16, last}
 use Rattle.answer.specs.Numbers.{numberOf}
+use Rattle.answer.specs.Rooms.{capped}
 use Rattle.dss_head.specs.declared.DssType.the-variants.{Object}
 use Rattle.dss_frame.specs.Segments.{payloadOf, endOf, frameWalk, continuations, walkFuel}
 use Rattle.dss_frame.specs.Reading.{Read, frame, refused, readAt, absorb, absorbFuel, look}
@@ -66,10 +67,12 @@ pub edge-65527 : edge 65527 ≡ record { size = 65537; room = 65537; first = 0xF
 unfolding edge edgeOf answer full frameSize written chunks chunksFuel readAt absorb absorbFuel look payloadOf endOf frameWalk continuations walkFuel
 edge-65527 = refl
 
--- "a need above 2^64 - 1 is given as that": the longest payload whose frame has a size below 2^64, and one byte more (W-206)
-pub edge-capped : (frameSize 18445618139441922009 ≡ 2 ^ 64 - 1) × (frameSize 18445618139441922010 ≡ 2 ^ 64)
+-- "a need above 2^64 - 1 is given as that": around the longest payload whose frame has a size below 2^64 (W-206); of one byte more
+-- the size is 2^64, and is given as 2^64 - 1
+pub edge-capped : (capped (frameSize 18445618139441922008) ≡ 2 ^ 64 - 2) × (capped (frameSize 18445618139441922009) ≡ 2 ^ 64 - 1)
+    × (frameSize 18445618139441922010 ≡ 2 ^ 64) × (capped (frameSize 18445618139441922010) ≡ 2 ^ 64 - 1)
 unfolding frameSize
-edge-capped = (refl, refl)
+edge-capped = (refl, refl, refl, refl)
 
 -- "Data 32,764: 80 08, code point, 00 00 7F FC, 32,772 bytes"; and one byte less, inline
 pub edge-32764 : (take 8 (built 0x2412 (replicate 32764 0xC1)) ≡ 0x80 ∷ 0x08 ∷ 0x24 ∷ 0x12 ∷ 0x00 ∷ 0x00 ∷ 0x7F ∷ 0xFC ∷ []) × (length (built 0x2412 (replicate 32764 0xC1)) ≡ 32772)
