@@ -28,10 +28,11 @@
  * from the fill mark where a function has one (write_.., builder_add_..): lend fill mark and need. So a call with nothing lent,
  * and fill mark 0, asks for the need.
  *
- * ROWS. A list goes into a row of uint64_t, eight words a record: row_len / 8 records have room, words beyond stay.
+ * ROWS. A list goes into a row of uint64_t, one record behind the other: of frames and of salvage entries LATTRUGONE_RECORD_WORDS
+ * words each, of objects and of parameters LATTRUGONE_WORDS. row_len over that is how many records have room, words beyond stay.
  *
- * docs/DIFFERENCES.md says where the answers differ from db2-proto's and from DRDA volume 3. bindings/c/example.c and
- * bindings/c/alter.c are examples to copy.
+ * docs/DIFFERENCES.md says where the answers differ from db2-proto's and from DRDA volume 3. bindings/c/example.c,
+ * bindings/c/offsets.c and bindings/c/alter.c are examples to copy.
  */
 #ifndef LATTRUGONE_H
 #define LATTRUGONE_H
@@ -47,8 +48,11 @@
 extern "C" {
 #endif
 
-/* How many words an answer has, and a row's record. */
+/* How many words an answer has, and a record of objects or parameters. */
 #define LATTRUGONE_WORDS 8
+
+/* How many words a record of frames or of salvage entries has. */
+#define LATTRUGONE_RECORD_WORDS 10
 
 /* The answer's number, and in brackets the values: words[2], words[3], words[4]. */
 enum lattrugone_answer {
@@ -101,6 +105,13 @@ enum lattrugone_word {
     LATTRUGONE_FRAME_CORRELATION = 4,
     LATTRUGONE_FRAME_PAYLOAD_LEN = 5,
     LATTRUGONE_FRAME_SEGMENTS = 6,       /* one, and one for each continuation or absorbed segment */
+    /* next_frame */
+    LATTRUGONE_FRAME_FIRST = 7,          /* the frame's first byte, counted from the run's start as FRAME_BEHIND is */
+
+    /* a record of frames or of salvage entries, a refusal's too: where it stood in the run, continuations and absorbed segments
+     * included */
+    LATTRUGONE_RECORD_FIRST = 8,         /* its first byte */
+    LATTRUGONE_RECORD_END = 9,           /* the byte after its last; RECORD_FIRST where salvage ends at a length below 6 */
 
     /* read_all_frames, salvage, objects, parameters */
     LATTRUGONE_LIST_BEHIND = 1,          /* read_all_frames: the position behind the last frame */
@@ -252,7 +263,8 @@ uint8_t lattrugone_first_frame_end(const uint8_t *run, size_t run_len, uint64_t 
 /* Reads the frame at a position, its payload to the room's first byte: continuations are joined, and segments behind it that
  * carry on are absorbed.
  * DONE: words[FRAME_BEHIND] the position to read on from, words[FRAME_LENGTH], words[FRAME_FORMAT], words[FRAME_CORRELATION],
- * words[FRAME_PAYLOAD_LEN] how many bytes of the room are filled, words[FRAME_SEGMENTS].
+ * words[FRAME_PAYLOAD_LEN] how many bytes of the room are filled, words[FRAME_SEGMENTS], words[FRAME_FIRST] the position as given:
+ * the frame stood from there up to words[FRAME_BEHIND].
  * In this order: OUT_OF_BOUNDS at `at`; NOT_WHOLE or NEVER_WHOLE as in frame_end; BAD_MAGIC, BAD_TYPE, LENGTH_TOO_SHORT at the
  * head that is refused, which may be one behind the frame, that is then lost; NO_ROOM at `at`. With BAD_MAGIC, BAD_TYPE and
  * LENGTH_TOO_SHORT the position then stands at words[PLACE]: salvage from `at`, and not from that place, so the frame comes out.
@@ -268,7 +280,8 @@ uint8_t lattrugone_next_frame(const uint8_t *run, size_t run_len, size_t at, uin
                               size_t words_len);
 
 /* Reads frames from a position on until one isn't whole, yet or ever: payloads end to end from the room's first byte, in the row
- * a record of each: 0, words[FRAME_PAYLOAD_AT] and the others as next_frame has them, 0.
+ * a record of each: 0, words[FRAME_PAYLOAD_AT] and the others as next_frame has them, 0, words[RECORD_FIRST], words[RECORD_END].
+ * What stands in the records follows without gap or overlap from `at` to words[LIST_BEHIND].
  * DONE, also where there is none: words[LIST_BEHIND] the position to read on from, words[LIST_COUNT] how many records,
  * words[LIST_BYTES] how many bytes of the room. Whether to wait for more bytes there, frame_end at words[LIST_BEHIND] says.
  * In this order: OUT_OF_BOUNDS at `at`; BAD_MAGIC, BAD_TYPE, LENGTH_TOO_SHORT of any frame at the head that is refused, where
@@ -281,7 +294,9 @@ uint8_t lattrugone_read_all_frames(const uint8_t *run, size_t run_len, size_t at
  * stepped over, or ends the walk where its length is below 6; and a continuation of length 0x7FFF is the frame's last, so that no
  * size is lost and none swallows the frame behind it.
  * An entry is a record in the row. A frame's is as read_all_frames has it: the number 0, words[FRAME_PAYLOAD_AT] and so on. A
- * refusal's is its number (BAD_MAGIC, BAD_TYPE, LENGTH_TOO_SHORT), its place, its value.
+ * refusal's is its number (BAD_MAGIC, BAD_TYPE, LENGTH_TOO_SHORT), its place, its value, and where the refused frame stood:
+ * words[RECORD_FIRST], which is its place, and words[RECORD_END], to which it was stepped over. What stands in the entries follows
+ * without gap or overlap from 0 to words[LIST_TAIL], whatever the run.
  * DONE: words[LIST_COUNT] how many entries, words[LIST_BYTES] how many bytes of the room, words[LIST_TAIL] where the walk ended:
  * from there to run_len nothing was read. A frame that isn't whole, yet or ever, ends the walk and is no entry: frame_end at the
  * tail says which. The one refusal is NO_ROOM, at 0. A room as long as the run and a row of run_len / 6 records are always

@@ -4,7 +4,7 @@ use crate::clock::{fastest, timed, Lent};
 use crate::lines::{goal, Line};
 use crate::WORDS;
 use db2_proto::dss::{DssReader, DssWriter};
-use lattrugone::port;
+use lattrugone::port::{self, RECORD_WORDS};
 use std::hint::black_box;
 
 /// Where the frames of a run end and how long their payloads are, as both sides read them.
@@ -77,7 +77,7 @@ pub fn next_frame(name: &str, repeats: usize, run: &[u8]) -> Line {
 pub fn read_all_frames(name: &str, repeats: usize, run: &[u8]) -> Line {
     let frames = DssReader::new(run.to_vec()).read_all_frames().unwrap();
     let mut room = vec![1; run.len()];
-    let mut row = vec![1u64; 8 * frames.len()];
+    let mut row = vec![1u64; RECORD_WORDS * frames.len()];
     let mut words = WORDS;
     assert_eq!(
         port::read_all_frames(run, 0, &mut room, &mut row, &mut words),

@@ -79,19 +79,20 @@ static size_t salvage_end(const struct connection *c, size_t place)
  * else: two entries are the most. Behind a length below 6 nothing can be found, whatever comes in. */
 static const char *salvage(struct connection *c, size_t place)
 {
-    uint64_t words[LATTRUGONE_WORDS], row[2 * LATTRUGONE_WORDS];
+    uint64_t words[LATTRUGONE_WORDS], row[2 * LATTRUGONE_RECORD_WORDS];
     size_t end = salvage_end(c, place);
 
-    if (lattrugone_salvage(c->area + c->at, end - c->at, c->room, c->room_len, row, 2 * LATTRUGONE_WORDS, words,
+    if (lattrugone_salvage(c->area + c->at, end - c->at, c->room, c->room_len, row, 2 * LATTRUGONE_RECORD_WORDS, words,
                            LATTRUGONE_WORDS) == LATTRUGONE_NO_ROOM)
         return lend(&c->room, &c->room_len, words[LATTRUGONE_NEEDED_BYTES]); /* then all is asked again */
 
     for (size_t i = 0; i < words[LATTRUGONE_LIST_COUNT]; i++) {
-        const uint64_t *entry = row + i * LATTRUGONE_WORDS;
+        const uint64_t *entry = row + i * LATTRUGONE_RECORD_WORDS;
+        uint64_t first = c->gone + c->at + entry[LATTRUGONE_RECORD_FIRST];
         if (entry[LATTRUGONE_NUMBER] == LATTRUGONE_DONE)
-            take_frame(c->gone + c->at, entry, c->room + entry[LATTRUGONE_FRAME_PAYLOAD_AT]);
+            take_frame(first, entry, c->room + entry[LATTRUGONE_FRAME_PAYLOAD_AT]);
         else
-            take_refusal(c->gone + c->at + entry[LATTRUGONE_PLACE], entry);
+            take_refusal(first, entry);
     }
     c->at += words[LATTRUGONE_LIST_TAIL];
     return c->at < end ? "a length below 6" : NULL;

@@ -62,7 +62,7 @@ lending! {
     build_ddm_object(code_point: u16);
 }
 
-/// What a call lends that fills a room with payloads and a row with records, eight words each.
+/// What a call lends that fills a room with payloads and a row with records.
 pub struct RowLoan<'a> {
     pub run: &'a [u8],
     pub room: &'a mut [u8],

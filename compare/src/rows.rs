@@ -1,20 +1,35 @@
-//! Calls that list all that a run has: payloads end to end in a lent room, records of eight words in a lent row. Each is made in
-//! a room and a row that are just enough, and in turn in ones that are short by a byte, a word or a record, longer, or empty.
+//! Calls that list all that a run has: payloads end to end in a lent room, records in a lent row, ten words each of frames and of
+//! salvage entries, eight of objects and parameters. Each is made in a room and a row that are just enough, and in turn in ones that
+//! are short by a byte, a word or a record, longer, or empty.
 use crate::answers::{answered, done, expected, refused, Answer, Words};
 use crate::lent::Lent;
 use crate::port::RowLoan;
 use crate::{By, Tally};
 
-/// What is listed.
-pub enum Listed {
+/// How many words a record of frames or of salvage entries has.
+pub const RECORD_WORDS: usize = 10;
+
+/// Such a record.
+pub type Record = [u64; RECORD_WORDS];
+
+/// What is listed, in records of so many words.
+pub enum Listed<const WIDTH: usize> {
     /// The answer's words, the records in order, and the payloads end to end.
     All {
         words: Words,
-        records: Vec<Words>,
+        records: Vec<[u64; WIDTH]>,
         payloads: Vec<u8>,
     },
     /// Every refusal but 9.
     Refused(Words),
+}
+
+/// A record: its eight words, and document 02, W-201, "the first byte and the byte after the last one in the run".
+pub fn record(words: Words, from: usize, end: usize) -> Record {
+    let mut record = [0; RECORD_WORDS];
+    record[..8].copy_from_slice(&words);
+    record[8..].copy_from_slice(&[from as u64, end as u64]);
+    record
 }
 
 /// A frame in words: a place, the head's length, format byte and correlation, the payload's length, segments.
@@ -24,7 +39,7 @@ pub fn frame_words(place: usize, head: [u64; 3], payload: usize, segments: u64) 
     words
 }
 
-impl Listed {
+impl<const WIDTH: usize> Listed<WIDTH> {
     /// How many bytes and how many records are needed.
     pub fn needs(&self) -> (usize, usize) {
         match self {
@@ -45,7 +60,7 @@ impl Listed {
                 records,
                 payloads,
             } => {
-                if payloads.len() > room || records.len() > row / 8 {
+                if payloads.len() > room || records.len() > row / WIDTH {
                     let needs = [payloads.len() as u64, records.len() as u64];
                     return expected(refused(9, at as u64, &needs), words);
                 }
@@ -81,34 +96,34 @@ impl Rows {
     pub fn new(bytes: usize, records: usize) -> Rows {
         Rows {
             room: Lent::new(bytes),
-            row: Lent::new(8 * records),
+            row: Lent::new(RECORD_WORDS * records),
             words: Lent::new(64),
             turn: 0,
         }
     }
 
     /// Makes a call on a run that is lent, which is these bytes, and holds what it comes to, to what is listed.
-    pub fn hold(
+    pub fn hold<const WIDTH: usize>(
         &mut self,
         tally: &mut Tally,
         run: &mut Lent<u8>,
         bytes: &[u8],
         call: Call,
-        listed: &Listed,
+        listed: &Listed<WIDTH>,
     ) {
         let (need, records) = listed.needs();
-        let words = 8 * records;
+        let words = WIDTH * records;
         self.turn += 1;
         let turn = self.turn;
         let (room, row) = match turn % 8 {
             0 => (0, 0),
             1 => (need.saturating_sub(1), words),
             2 => (need, words.saturating_sub(1)),
-            3 => (need, words.saturating_sub(8)),
+            3 => (need, words.saturating_sub(WIDTH)),
             4 => (need + 1 + turn % 45, words + turn % 29),
-            5 => (need, words + 7),
+            5 => (need, words + WIDTH - 1),
             6 => (need.saturating_sub(1), words.saturating_sub(1)),
-            _ => (need + 3, words + 8),
+            _ => (need + 3, words + WIDTH),
         };
         for (room, row) in [(need, words), (room, row)] {
             let due = listed.answer(call.at, room, row, call.words);

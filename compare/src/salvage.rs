@@ -7,9 +7,9 @@ mod runs;
 
 use crate::answers::{done, refused, Words};
 use crate::lent::Lent;
-use crate::rows::{frame_words, Call, Listed, Rows};
+use crate::rows::{frame_words, record, Call, Listed, Rows, RECORD_WORDS};
 use crate::{port, By, Chance, Tally};
-use model::{Entry, Frame, Head, Salvage};
+use model::{Entry, Frame, Head, Salvage, Stood};
 
 /// The longest run, and the most entries of one.
 const MOST: usize = 700_000;
@@ -64,20 +64,27 @@ impl Held {
     }
 
     /// Holds the port to a list.
-    fn hold_to(&mut self, tally: &mut Tally, run: &[u8], call: Call, listed: &Listed) {
+    fn hold_to(
+        &mut self,
+        tally: &mut Tally,
+        run: &[u8],
+        call: Call,
+        listed: &Listed<RECORD_WORDS>,
+    ) {
         self.run.lend_copy(run);
         self.rows.hold(tally, &mut self.run, run, call, listed)
     }
 }
 
 /// What the model hands out as the port lays it down: how many entries, how many bytes, the tail; a record for each entry.
-fn listed(salvage: &Salvage) -> Listed {
+fn listed(salvage: &Salvage) -> Listed<RECORD_WORDS> {
     let (mut records, mut payloads) = (Vec::new(), Vec::new());
-    for entry in &salvage.entries {
-        records.push(match entry {
+    for Stood { from, end, entry } in &salvage.entries {
+        let words = match entry {
             Entry::Frame(frame) => of_frame(frame, payloads.len()),
             Entry::Refused(r) => refused(r.number as u64, r.place as u64, &[r.value as u64]),
-        });
+        };
+        records.push(record(words, *from, *end));
         if let Entry::Frame(frame) = entry {
             payloads.extend_from_slice(&frame.payload);
         }
@@ -90,7 +97,7 @@ fn listed(salvage: &Salvage) -> Listed {
     }
 }
 
-/// A frame's record, with its payload's place.
+/// A frame's words, with its payload's place.
 fn of_frame(frame: &Frame, place: usize) -> Words {
     let head = head_words(&frame.head);
     frame_words(place, head, frame.payload.len(), frame.segments as u64)

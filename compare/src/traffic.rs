@@ -4,6 +4,7 @@
 //! two part, and some capture has to have one. And the same with each continuation length spoilt in turn, to 0 and to 1: 16, where
 //! the splitter has that length.
 use crate::port::RowLoan;
+use crate::rows::RECORD_WORDS;
 use crate::{port, By, Tally};
 use std::fs;
 use std::path::Path;
@@ -149,7 +150,7 @@ fn read(run: &[u8]) -> (Vec<(Frame, String)>, [u64; 3]) {
         }
         let payload = &room[..words[5] as usize];
         let frame = Frame {
-            from: at as u64,
+            from: words[7],
             end: words[1],
             format: words[3],
             correlation: words[4],
@@ -163,10 +164,10 @@ fn read(run: &[u8]) -> (Vec<(Frame, String)>, [u64; 3]) {
     }
 }
 
-/// The frames that the salvage reading hands out, and the tail's place. Its records don't say where a frame stands.
+/// The frames that the salvage reading hands out, each with where it stood, and the tail's place.
 fn salvaged(run: &[u8]) -> (Vec<Frame>, u64) {
     let mut room = vec![0; run.len()];
-    let mut row = vec![0; 8 * (run.len() / 6 + 1)];
+    let mut row = vec![0; RECORD_WORDS * (run.len() / 6 + 1)];
     let mut words = [0; 8];
     let answer = port::salvage(RowLoan {
         run,
@@ -176,8 +177,8 @@ fn salvaged(run: &[u8]) -> (Vec<Frame>, u64) {
     });
     assert!(answer == 0, "room for all, and still refused");
     let frame = |r: &[u64]| Frame {
-        from: 0,
-        end: 0,
+        from: r[8],
+        end: r[9],
         format: r[3],
         correlation: r[4],
         length: r[2],
@@ -185,7 +186,7 @@ fn salvaged(run: &[u8]) -> (Vec<Frame>, u64) {
         segments: r[6],
         sum: sum(&room[r[1] as usize..(r[1] + r[5]) as usize]),
     };
-    let records = row.chunks(8).take(words[2] as usize);
+    let records = row.chunks(RECORD_WORDS).take(words[2] as usize);
     (records.map(frame).collect(), words[4])
 }
 
@@ -255,15 +256,8 @@ fn compare_file(
         let before = frames.iter().filter(|(f, _)| f.from < frame.from).count();
         spoilt(tally, &what, &run, frame, before);
     }
-    let due: Vec<Frame> = as_read(split, misread)
-        .into_iter()
-        .map(|frame| Frame {
-            from: 0,
-            end: 0,
-            ..frame
-        })
-        .collect();
     let (entries, tail) = salvaged(&run);
+    let due = as_read(split, misread);
     tally.same(&format!("{what}: salvaged"), &[], entries, due);
     tally.same(&format!("{what}: the tail"), &[], tail, run.len() as u64);
     full.len()

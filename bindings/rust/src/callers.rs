@@ -133,6 +133,26 @@
 //! }
 //! ```
 //!
+//! A frame taken apart, which has a field that isn't public:
+//!
+//! ```compile_fail
+//! use lattrugone::dss::{DssFrame, DssHeader};
+//!
+//! fn parts(frame: DssFrame) -> (DssHeader, Vec<u8>) {
+//!     let DssFrame { header, payload } = frame;
+//!     (header, payload)
+//! }
+//! ```
+//!
+//! ```
+//! use lattrugone::dss::{DssFrame, DssHeader};
+//!
+//! fn parts(frame: DssFrame) -> (DssHeader, Vec<u8>) {
+//!     let DssFrame { header, payload, .. } = frame;
+//!     (header, payload)
+//! }
+//! ```
+//!
 //! An error type of the caller's own, made from db2-proto's:
 //!
 //! ```compile_fail,E0277

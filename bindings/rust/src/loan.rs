@@ -30,23 +30,24 @@ pub(crate) fn built(call: impl FnMut(&mut Loan) -> u8) -> Vec<u8> {
     Loan::of(call).expect("the room that it takes is lent").room
 }
 
-/// The room and the row of a call that was done, with just as much as it needed, and its answer's words.
+/// The room and the row of a call that was done, with just as much as it needed, and its answer's words. A record of the row has so
+/// many words.
 #[derive(Default)]
-pub(crate) struct Loan {
+pub(crate) struct Loan<const WIDTH: usize = WORDS> {
     pub room: Vec<u8>,
     pub row: Vec<u64>,
     pub words: Words,
 }
 
-impl Loan {
+impl<const WIDTH: usize> Loan<WIDTH> {
     /// Makes a call, first with nothing lent, which only measures; where that says what is needed, again with that.
-    pub fn of(mut call: impl FnMut(&mut Loan) -> u8) -> Answer<Loan> {
-        match Loan::default().after(&mut call) {
+    pub fn of(mut call: impl FnMut(&mut Self) -> u8) -> Answer<Self> {
+        match Self::default().after(&mut call) {
             Err(refusal) if refusal.is_no_room() => {
                 let [_, _, bytes, records, ..] = refusal.0;
-                let loan = Loan {
+                let loan = Self {
                     room: vec![0; bytes as usize],
-                    row: vec![0; (records as usize).saturating_mul(WORDS)],
+                    row: vec![0; (records as usize).saturating_mul(WIDTH)],
                     words: [0; WORDS],
                 };
                 loan.after(&mut call)
@@ -55,7 +56,7 @@ impl Loan {
         }
     }
 
-    fn after(mut self, call: &mut impl FnMut(&mut Loan) -> u8) -> Answer<Loan> {
+    fn after(mut self, call: &mut impl FnMut(&mut Self) -> u8) -> Answer<Self> {
         match call(&mut self) {
             0 => Ok(self),
             _ => Err(Refusal(self.words)),
@@ -63,8 +64,8 @@ impl Loan {
     }
 
     /// The row's records.
-    pub fn records(&self) -> impl Iterator<Item = &Words> {
-        let record = |words| <&Words>::try_from(words).expect("a chunk of that length");
-        self.row.chunks_exact(WORDS).map(record)
+    pub fn records(&self) -> impl Iterator<Item = &[u64; WIDTH]> {
+        let record = |words| <&[u64; WIDTH]>::try_from(words).expect("a chunk of that length");
+        self.row.chunks_exact(WIDTH).map(record)
     }
 }

@@ -1,11 +1,17 @@
 //! The archives' functions as they are: numbers and slices in, an answer's number out, eight words at the start of `words`. What
 //! each reads, writes and answers stands in `include/lattrugone.h`. Nothing is allocated. Here is all of this crate's `unsafe`.
 
-/// How many words an answer has, and a row's record.
+/// How many words an answer has, and a record of objects or parameters.
 pub const WORDS: usize = 8;
 
 /// An answer's words.
 pub type Words = [u64; WORDS];
+
+/// How many words a record of frames or of salvage entries has: eight, its first byte, and the byte after its last.
+pub const RECORD_WORDS: usize = 10;
+
+/// The words of such a record.
+pub type Record = [u64; RECORD_WORDS];
 
 // Declares each function as the archives export it, where a slice goes as its pointer and then its length, and a safe function
 // of the same name that takes the slice. It goes through the arguments one by one and gathers three things in brackets: the safe

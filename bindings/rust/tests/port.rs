@@ -3,7 +3,7 @@ mod common;
 use common::{full_segments, hex, pattern};
 use lattrugone::ddm::{build_ddm_object, DdmObject};
 use lattrugone::dss::build_dss_object;
-use lattrugone::port::{self, Words, WORDS};
+use lattrugone::port::{self, Words, RECORD_WORDS, WORDS};
 
 const KEPT: u64 = 0xAAAA;
 
@@ -23,26 +23,25 @@ fn a_refusal_alters_nothing_that_is_lent() {
     assert_eq!((read, room), ([9, 0, 2, 0, 0, 0, 0, 0], [0x11]));
     let beyond = words(|w| port::next_frame(&run, 15, &mut room, w));
     assert_eq!((beyond, room), ([10, 15, 15, 14, 0, 0, 0, 0], [0x11]));
-    let mut row = [KEPT; WORDS];
+    let mut row = [KEPT; RECORD_WORDS];
     let all = words(|w| port::read_all_frames(&run, 0, &mut room, &mut row, w));
-    assert_eq!(
-        (all, room, row),
-        ([9, 0, 2, 1, 0, 0, 0, 0], [0x11], [KEPT; WORDS])
-    );
-    let salvaged = words(|w| port::salvage(&run, &mut [0; 2], &mut row[..7], w));
-    assert_eq!((salvaged, row), ([9, 0, 2, 1, 0, 0, 0, 0], [KEPT; WORDS]));
+    let kept = [KEPT; RECORD_WORDS];
+    assert_eq!((all, room, row), ([9, 0, 2, 1, 0, 0, 0, 0], [0x11], kept));
+    let few = &mut row[..RECORD_WORDS - 1];
+    let salvaged = words(|w| port::salvage(&run, &mut [0; 2], few, w));
+    assert_eq!((salvaged, row), ([9, 0, 2, 1, 0, 0, 0, 0], kept));
 }
 
 #[test]
 fn bytes_beside_the_result_stay() {
     let run = hex("0007D0030001AA 0007D0530001BB");
     let mut room = [0x11; 4];
-    let mut row = [KEPT; 2 * WORDS];
+    let mut row = [KEPT; 2 * RECORD_WORDS];
     let all = words(|w| port::read_all_frames(&run, 0, &mut room, &mut row, w));
     assert_eq!(all, [0, 14, 1, 2, 0, 0, 0, 0]);
     assert_eq!(room.to_vec(), hex("AABB1111"));
-    assert_eq!(row[..WORDS], [0, 0, 7, 0x43, 1, 2, 2, 0]);
-    assert_eq!(row[WORDS..], [KEPT; WORDS]);
+    assert_eq!(row[..RECORD_WORDS], [0, 0, 7, 0x43, 1, 2, 2, 0, 0, 14]);
+    assert_eq!(row[RECORD_WORDS..], [KEPT; RECORD_WORDS]);
 }
 
 #[test]
@@ -217,7 +216,7 @@ fn frame_ends() {
 fn a_frame_that_is_never_whole() {
     let (before, frame) = (hex("0006D0020007"), full_segments(1, 1));
     let run = [&before[..], &frame].concat();
-    let (mut room, mut row) = ([0x11; 4], [KEPT; 2 * WORDS]);
+    let (mut room, mut row) = ([0x11; 4], [KEPT; 2 * RECORD_WORDS]);
     // the place is the length's, and the position stays
     let dead = [16, 6 + 32767, 0, 0, 0, 0, 0, 0];
     assert_eq!(words(|w| port::frame_end(&run, 6, w)), dead);
@@ -234,11 +233,13 @@ fn a_frame_that_is_never_whole() {
     // it ends a list, and is no entry
     let all = words(|w| port::read_all_frames(&run, 0, &mut room, &mut row, w));
     assert_eq!(all, [0, 6, 1, 0, 0, 0, 0, 0]);
-    let none = words(|w| port::read_all_frames(&run, 6, &mut room, &mut row[WORDS..], w));
+    let none = words(|w| port::read_all_frames(&run, 6, &mut room, &mut row[RECORD_WORDS..], w));
     assert_eq!(none, [0, 6, 0, 0, 0, 0, 0, 0]);
     let salvaged = words(|w| port::salvage(&run, &mut room, &mut row, w));
     assert_eq!(salvaged, [0, 0, 1, 0, 6, 0, 0, 0]);
-    assert_eq!((room, &row[WORDS..]), ([0x11; 4], &[KEPT; WORDS][..]));
+    assert_eq!(row[..RECORD_WORDS], [0, 0, 6, 2, 7, 0, 1, 0, 0, 6]);
+    let kept = &[KEPT; RECORD_WORDS][..];
+    assert_eq!((room, &row[RECORD_WORDS..]), ([0x11; 4], kept));
 }
 
 #[test]

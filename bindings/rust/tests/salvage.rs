@@ -13,8 +13,18 @@ enum Found {
     Refused(usize),
 }
 
+/// The entries and the tail's place; where they stood, without gap or overlap from 0 to there.
 fn found(run: &[u8]) -> (Vec<Found>, usize) {
     let all = salvage(run);
+    let mut end = 0;
+    for span in all.entries.iter().map(Entry::span) {
+        assert!(
+            span.start == end && span.start <= span.end,
+            "{span:?} behind {end}"
+        );
+        end = span.end;
+    }
+    assert_eq!(end, all.tail);
     let short = |entry| match entry {
         Entry::Frame { frame, .. } => {
             let head = frame.header;
@@ -176,14 +186,14 @@ fn why_an_entry_is_refused() {
         .entries
         .iter()
         .filter_map(|entry| match entry {
-            Entry::Refused { place, error } => Some((*place, error.clone())),
+            Entry::Refused { place, end, error } => Some((*place, *end, error.clone())),
             Entry::Frame { .. } => None,
         })
         .collect();
     let expected = [
-        (0, InvalidMagic(0xD1)),
-        (6, InvalidDssType(6)),
-        (19, LengthTooShort(5)),
+        (0, 6, InvalidMagic(0xD1)),
+        (6, 13, InvalidDssType(6)),
+        (19, 19, LengthTooShort(5)),
     ];
     assert_eq!(errors, expected);
     // a length below 6 ends it

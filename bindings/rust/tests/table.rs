@@ -16,6 +16,7 @@ fn line(run: &str) -> Result<Option<String>, (ProtoError, usize)> {
             return Ok(None);
         }
     };
+    assert_eq!(frame.span(), 0..reader.position());
     let (head, at) = (frame.header, reader.position());
     let flag = |set, letter| if set { letter } else { '-' };
     let flags: String = [
@@ -84,11 +85,12 @@ fn p8_zeros_behind_a_frame() {
     refuses(run, InvalidMagic(0), 6);
     let found = salvage(&hex(run));
     match &found.entries[..] {
-        [Entry::Frame { frame, segments }, Entry::Refused { place, error }] => {
+        [Entry::Frame { frame, segments }, Entry::Refused { place, end, error }] => {
             let head = &frame.header;
             assert_eq!((head.dss_type, head.correlation_id), (DssType::Reply, 7));
             assert_eq!((frame.payload.len(), *segments), (0, 1));
-            assert_eq!((*place, error), (6, &InvalidMagic(0)));
+            assert_eq!((*place, *end, error), (6, 6, &InvalidMagic(0)));
+            assert_eq!(frame.span(), 0..6);
         }
         other => panic!("{other:?}"),
     }

@@ -131,7 +131,7 @@ fn lists(list: &mut List, asked: Asked, items: Result<Vec<Item>, Words>, turn: u
         }
     };
     let (bytes, records) = all.needs();
-    for (room, row) in rooms(bytes, records, turn) {
+    for (room, row) in rooms(bytes, 8, records, turn) {
         let answer = all.answer(0, room, row, asked.lent_words());
         list.answer(asked.room(room).row(row), 0, &answer);
     }

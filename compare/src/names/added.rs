@@ -1,15 +1,16 @@
-//! What lattrugone adds to db2-proto's names: its `salvage` held to the model, `next_frame_counted`, `dead_at` and `position` to the
-//! walk and to what remains, and frames of type 5 to the Rust's requests.
+//! What lattrugone adds to db2-proto's names: its `salvage` and where its entries stood held to the model, `next_frame_counted`,
+//! `dead_at`, `position` and `span` to the walk and to what remains, and frames of type 5 to the Rust's requests.
 use super::seen::Head;
 use super::Names;
 use crate::answers::Bytes;
 use crate::reader::long::each_dead;
 use crate::reader::walk::{walk, Walked};
 use crate::reader::{runs, PAPER};
-use crate::salvage::model::{self, Entry};
+use crate::salvage::model::{self, Entry, Stood};
 use crate::writer::around_edges;
 use crate::{five, shown, By, Chance};
 use lattrugone::dss::{self, DssReader, DssType, DssWriter};
+use std::ops::Range;
 
 /// Once in so many random runs there are long frames.
 const LONG: usize = 200;
@@ -85,7 +86,7 @@ fn hold(names: &mut Names, run: &[u8]) {
         names.document("DssReader::dead_at", shown(run), reader.dead_at(), dead);
         let read = reader.next_frame_counted();
         let none = matches!(read, Ok(None));
-        let Ok(Some((_, segments))) = read else {
+        let Ok(Some((frame, segments))) = read else {
             let (place, stands) = (reader.position(), run.len() - reader.remaining());
             // Not whole, yet or ever: none, and it stays. Else an error, of which the walk says where 7 stands.
             let due = match due {
@@ -100,22 +101,26 @@ fn hold(names: &mut Names, run: &[u8]) {
             segments: segments as u64,
         };
         names.document("DssReader::next_frame_counted", shown(run), port, due);
+        // It stood between the two positions.
+        let stood = at..run.len() - reader.remaining();
+        names.document("DssFrame::span", shown(run), frame.span(), stood);
     }
 }
 
-/// An entry: a frame with its segments, or a place and an error.
+/// An entry: where it stood; a frame with its segments, or a place and an error.
 #[derive(PartialEq, Debug)]
 enum Found {
-    Frame(Head, Bytes, usize),
-    Refused(usize, String),
+    Frame(Range<usize>, Head, Bytes, usize),
+    Refused(Range<usize>, usize, String),
 }
 
 /// The entries and the tail's place.
 type Salvaged = (Vec<Found>, usize);
 
 fn by_port(run: &[u8]) -> Salvaged {
-    let found = |entry| match entry {
+    let found = |entry: dss::Entry| match entry {
         dss::Entry::Frame { frame, segments } => {
+            let stood = frame.span();
             let (head, flags) = (&frame.header, frame.header.flags);
             let flags = [
                 flags.chained,
@@ -124,9 +129,11 @@ fn by_port(run: &[u8]) -> Salvaged {
             ];
             let dss_type = head.dss_type.to_byte();
             let head = (head.length, dss_type, flags, head.correlation_id);
-            Found::Frame(head, Bytes(frame.payload), segments)
+            Found::Frame(stood, head, Bytes(frame.payload), segments)
         }
-        dss::Entry::Refused { place, error } => Found::Refused(place, format!("{error:?}")),
+        ref refused @ dss::Entry::Refused {
+            place, ref error, ..
+        } => Found::Refused(refused.span(), place, format!("{error:?}")),
     };
     let salvage = dss::salvage(run);
     (
@@ -136,12 +143,12 @@ fn by_port(run: &[u8]) -> Salvaged {
 }
 
 fn by_model(run: &[u8]) -> Salvaged {
-    let found = |entry| match entry {
+    let found = |Stood { from, end, entry }| match entry {
         Entry::Frame(frame) => {
             let head = frame.head;
             let flags = [head.chained, head.continue_on_error, head.same_correlation];
             let head = (head.length, head.kind, flags, head.correlation);
-            Found::Frame(head, Bytes(frame.payload), frame.segments)
+            Found::Frame(from..end, head, Bytes(frame.payload), frame.segments)
         }
         Entry::Refused(refusal) => {
             let case = match refusal.number {
@@ -149,7 +156,8 @@ fn by_model(run: &[u8]) -> Salvaged {
                 3 => "InvalidDssType",
                 _ => "LengthTooShort",
             };
-            Found::Refused(refusal.place, format!("{case}({})", refusal.value))
+            let error = format!("{case}({})", refusal.value);
+            Found::Refused(from..end, refusal.place, error)
         }
     };
     let salvage = model::salvage(run);

@@ -1,8 +1,8 @@
-//! All frames at once: the Rust's `read_all_frames`. How many segments a frame has and which length stopped the Rust, which it
-//! doesn't say, comes from reading the same frame by frame.
+//! All frames at once: the Rust's `read_all_frames`. Where a frame stood, how many segments it has and which length stopped the Rust,
+//! which it doesn't say, comes from reading the same frame by frame: the Rust's reader stands before it, and behind it.
 use super::rust::{head_of, next, position, Came, Read};
 use crate::answers::{of_error, refused, Words};
-use crate::rows::{frame_words, Listed};
+use crate::rows::{frame_words, record, Listed, Record, RECORD_WORDS};
 use crate::stops::unless_stopped;
 use crate::{five, By, Tally};
 use db2_proto::dss::{DssFrame, DssReader};
@@ -10,7 +10,7 @@ use db2_proto::dss::{DssFrame, DssReader};
 /// What reading frame by frame came to: each frame, and the refusal that ended it, with the position that it was read at.
 #[derive(Default)]
 pub struct ByFrame {
-    records: Vec<Words>,
+    records: Vec<Record>,
     payloads: Vec<u8>,
     last: Words,
     at: usize,
@@ -24,12 +24,12 @@ impl ByFrame {
             Came::Frame {
                 head,
                 payload,
+                end,
                 segments,
-                ..
             } => {
                 let place = self.payloads.len();
-                self.records
-                    .push(frame_words(place, head, payload.len(), segments));
+                let words = frame_words(place, head, payload.len(), segments);
+                self.records.push(record(words, at, end));
                 self.payloads.extend(payload);
                 true
             }
@@ -60,7 +60,7 @@ pub fn to_end(
 
 /// All frames of a run from a place on, by the Rust's `read_all_frames`, and who says so: where that refuses a type 5, it is what
 /// reading frame by frame came to.
-pub fn listed(run: &[u8], from: usize, by_frame: &ByFrame) -> (By, Listed) {
+pub fn listed(run: &[u8], from: usize, by_frame: &ByFrame) -> (By, Listed<RECORD_WORDS>) {
     let bytes = &run[from..];
     let mut reader = DssReader::new(bytes.to_vec());
     let given = unless_stopped(|| reader.read_all_frames());
@@ -77,17 +77,17 @@ pub fn listed(run: &[u8], from: usize, by_frame: &ByFrame) -> (By, Listed) {
 }
 
 /// "`read_all_frames` reads until 1", or 16; "2, 3, 7 anywhere in the run" refuse it.
-fn one_by_one(by_frame: &ByFrame) -> Listed {
+fn one_by_one(by_frame: &ByFrame) -> Listed<RECORD_WORDS> {
     match by_frame.last[0] {
         1 | 16 => of_records(by_frame, by_frame.at as u64),
         _ => Listed::Refused(by_frame.last),
     }
 }
 
-fn of_frames(frames: &[DssFrame], position: u64, by_frame: &ByFrame) -> Listed {
+fn of_frames(frames: &[DssFrame], position: u64, by_frame: &ByFrame) -> Listed<RECORD_WORDS> {
     let of = |frame: &DssFrame| (head_of(frame), frame.payload.len() as u64);
     let heads: Vec<_> = frames.iter().map(of).collect();
-    let record = |words: &Words| ([words[2], words[3], words[4]], words[5]);
+    let record = |words: &Record| ([words[2], words[3], words[4]], words[5]);
     let records: Vec<_> = by_frame.records.iter().map(record).collect();
     let payloads: Vec<_> = frames.iter().map(|frame| &frame.payload[..]).collect();
     assert!(
@@ -97,7 +97,7 @@ fn of_frames(frames: &[DssFrame], position: u64, by_frame: &ByFrame) -> Listed {
     of_records(by_frame, position)
 }
 
-fn of_records(by_frame: &ByFrame, position: u64) -> Listed {
+fn of_records(by_frame: &ByFrame, position: u64) -> Listed<RECORD_WORDS> {
     let records = by_frame.records.clone();
     let payloads = by_frame.payloads.clone();
     let (count, bytes) = (records.len() as u64, payloads.len() as u64);

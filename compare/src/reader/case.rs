@@ -3,7 +3,7 @@ use super::all::{listed, to_end, ByFrame};
 use super::rust::{end, next, position, Came, Read};
 use crate::answers::{answered, expected, refused, Answer};
 use crate::lent::Lent;
-use crate::rows::{Call, Listed, Rows};
+use crate::rows::{Call, Listed, Rows, RECORD_WORDS};
 use crate::{port, shown, By, Tally};
 use db2_proto::dss::DssReader;
 
@@ -206,7 +206,7 @@ impl Case<'_> {
     }
 
     /// All frames from a position on.
-    fn all(&mut self, tally: &mut Tally, at: usize, (by, listed): (By, Listed)) {
+    fn all(&mut self, tally: &mut Tally, at: usize, (by, listed): (By, Listed<RECORD_WORDS>)) {
         if let Listed::All { words, .. } = &listed {
             tally
                 .dead

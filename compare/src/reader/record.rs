@@ -7,6 +7,7 @@ use super::rust::{end, next, position, Came, Read};
 use super::PAPER;
 use crate::answers::expected;
 use crate::record::{structs, Asked, List, FEW_WORDS};
+use crate::rows::RECORD_WORDS;
 use crate::{Chance, Tally};
 use db2_proto::dss::DssReader;
 
@@ -78,7 +79,7 @@ fn all_at(list: &mut List, tally: &mut Tally, run: &[u8], from: usize, words: us
     let by_frame = to_end(tally, &mut reader, rest, from, first);
     let (_, frames) = listed(run, from, &by_frame);
     let (bytes, records) = frames.needs();
-    for (room, row) in rooms(bytes, records, turn) {
+    for (room, row) in rooms(bytes, RECORD_WORDS, records, turn) {
         let asked = Asked::new(64, &[from as u64], run);
         let answer = frames.answer(from, room, row, words);
         list.answer(asked.room(room).row(row).words(words), 0, &answer);
@@ -87,16 +88,16 @@ fn all_at(list: &mut List, tally: &mut Tally, run: &[u8], from: usize, words: us
     structs::rows(list, asked, from, &frames, turn);
 }
 
-/// A room and a row that are just enough for so many bytes and records, and others in turn: short, longer, none.
-pub fn rooms(bytes: usize, records: usize, turn: usize) -> [(usize, usize); 2] {
-    let row = 8 * records;
+/// A room and a row that are just enough for so many bytes, and records of so many words, and others in turn: short, longer, none.
+pub fn rooms(bytes: usize, width: usize, records: usize, turn: usize) -> [(usize, usize); 2] {
+    let row = width * records;
     let other = match turn % 6 {
         0 => (0, 0),
         1 => (bytes.saturating_sub(1), row),
         2 => (bytes, row.saturating_sub(1)),
-        3 => (bytes.saturating_sub(1), row.saturating_sub(8)),
-        4 => (bytes + 3, row + 8),
-        _ => (bytes, row + 7),
+        3 => (bytes.saturating_sub(1), row.saturating_sub(width)),
+        4 => (bytes + 3, row + width),
+        _ => (bytes, row + width - 1),
     };
     [(bytes, row), other]
 }
@@ -126,7 +127,7 @@ fn outside(list: &mut List, run: &[u8], at: usize) {
     let answer = expected(beyond(at, run.len()), 8);
     list.answer(asked(50), 0, &answer);
     list.answer(asked(52).room(3), 0, &answer);
-    list.answer(asked(64).room(3).row(9), 0, &answer);
+    list.answer(asked(64).room(3).row(11), 0, &answer);
 }
 
 fn few_words(list: &mut List, tally: &mut Tally) {

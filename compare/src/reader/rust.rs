@@ -52,7 +52,9 @@ impl Read {
                 end,
                 segments,
             } => {
-                let answer = frame_words(*end, *head, payload.len(), *segments);
+                let mut answer = frame_words(*end, *head, payload.len(), *segments);
+                // W-201: its first byte.
+                answer[7] = at as u64;
                 expected(answer, words).laying(payload)
             }
         }

@@ -4,7 +4,7 @@
 use super::Held;
 use crate::answers::{done, refused, Words};
 use crate::port::{self, Loan};
-use crate::rows::{frame_words, Call, Listed};
+use crate::rows::{frame_words, record, Call, Listed};
 use crate::writer::call;
 use crate::{By, Chance, Tally};
 
@@ -90,8 +90,8 @@ impl Sent {
         frame
     }
 
-    /// The record that is due for it, with its payload's place in the room.
-    fn record(&self, place: usize) -> Words {
+    /// The words that are due for it, with its payload's place in the room.
+    fn words(&self, place: usize) -> Words {
         let continuations = self.continuations();
         let length = match continuations {
             0 => self.payload.len() + 6,
@@ -138,13 +138,16 @@ fn hold(tally: &mut Tally, held: &mut Held, chance: &mut Chance, frames: &[(Sent
             0 => frame.written_by_port(),
             _ => frame.written_by_rust(),
         };
-        if *spoilt {
-            records.push(frame.spoil(chance, &mut bytes, run.len()));
+        let from = run.len();
+        let words = if *spoilt {
+            frame.spoil(chance, &mut bytes, from)
         } else {
-            records.push(frame.record(payloads.len()));
+            let place = payloads.len();
             payloads.extend_from_slice(&frame.payload);
-        }
+            frame.words(place)
+        };
         run.extend(bytes);
+        records.push(record(words, from, run.len()));
     }
     let (count, bytes) = (records.len() as u64, payloads.len() as u64);
     let due = Listed::All {

@@ -3,8 +3,16 @@
 
 /// What a salvage reading hands out: entries in order, and the tail's place.
 pub struct Salvage {
-    pub entries: Vec<Entry>,
+    pub entries: Vec<Stood>,
     pub tail: usize,
+}
+
+/// Document 02, W-201: "Each frame record gains the first byte and the byte after the last one in the run, absorbed segments
+/// included; salvage entries that are refusals gain the same two".
+pub struct Stood {
+    pub from: usize,
+    pub end: usize,
+    pub entry: Entry,
 }
 
 pub enum Entry {
@@ -264,14 +272,24 @@ pub fn salvage(run: &[u8]) -> Salvage {
         let head = own_head(run, place);
         match head.and_then(|head| read(run, place, head, own, Rules::Salvage)) {
             Ok((frame, end)) => {
-                entries.push(Entry::Frame(frame));
+                entries.push(Stood {
+                    from: place,
+                    end,
+                    entry: Entry::Frame(frame),
+                });
                 place = end;
             }
             // "A whole frame whose own head is refused becomes an entry with number and place, and is stepped over to its end;
             // if its raw length is below 6 the walk ends there."
             Err(refusal) => {
-                entries.push(Entry::Refused(refusal));
-                if number(run, place) < 6 {
+                // W-201: "equal where the walk ends at a length below six".
+                let ends = number(run, place) < 6;
+                entries.push(Stood {
+                    from: place,
+                    end: if ends { place } else { own_end },
+                    entry: Entry::Refused(refusal),
+                });
+                if ends {
                     break;
                 }
                 place = own_end;

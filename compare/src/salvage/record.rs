@@ -4,6 +4,7 @@ use super::{listed, model};
 use crate::reader::record::{rooms, runs};
 use crate::reader::PAPER;
 use crate::record::{structs, Asked, List, FEW_WORDS};
+use crate::rows::RECORD_WORDS;
 use crate::Chance;
 
 /// The reader's runs, and document 01's cases of frames each with a good frame behind it, with bytes changed.
@@ -36,7 +37,7 @@ pub fn record(list: &mut List, chance: &mut Chance) {
 fn salvage(list: &mut List, run: &[u8], words: usize, turn: usize) {
     let entries = listed(&model::salvage(run));
     let (bytes, records) = entries.needs();
-    for (room, row) in rooms(bytes, records, turn) {
+    for (room, row) in rooms(bytes, RECORD_WORDS, records, turn) {
         let asked = Asked::new(65, &[], run).room(room).row(row).words(words);
         list.answer(asked, 0, &entries.answer(0, room, row, words));
     }

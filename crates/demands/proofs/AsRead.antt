@@ -208,8 +208,8 @@ unfolding entriesOf salvagedBytes payloadsOf
 entries-bytes s p [] = refl
 entries-bytes s p (f ∷ fs) = ap (λ (b : List ℕ). payloadOf s (f .segments) ++ b) (entries-bytes s (endOf p (f .segments)) fs)
 
-pub entries-words : (s : List ℕ) (p at : ℕ) (fs : List Frame) → joined entryWords (salvagedRow s at (entriesOf p fs)) ≡ joined recordWords (recordsOf s at fs)
+pub entries-words : (s : List ℕ) (p at : ℕ) (fs : List Frame) → joined entryWords (salvagedRow s at (entriesOf p fs)) ≡ joined recordWords (recordsOf s p at fs)
 unfolding entriesOf salvagedRow recordsOf joined
 entries-words s p at [] = refl
 entries-words s p at (f ∷ fs) =
-    ap (λ (w : List ℕ). recordWords (recordOf s at f) ++ w) (entries-words s (endOf p (f .segments)) (at + length (payloadOf s (f .segments))) fs)
+    ap (λ (w : List ℕ). recordWords (recordOf s p at f) ++ w) (entries-words s (endOf p (f .segments)) (at + length (payloadOf s (f .segments))) fs)

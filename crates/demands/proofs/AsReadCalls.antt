@@ -59,7 +59,7 @@ module _ (s : List ℕ) (fs : List Frame) (q : ℕ) (room row words words′ : L
   roomed : landed (entriesFit s (entriesOf 0 fs) (length room) (places row)) room (salvagedBytes s (entriesOf 0 fs)) ≡ landed fit room (payloadsOf s fs)
   roomed = ap₂ (λ (b : Bool) (x : List ℕ). landed b room x) fits (entries-bytes s 0 fs)
 
-  rowed : landed (entriesFit s (entriesOf 0 fs) (length room) (places row)) row (joined entryWords (salvagedRow s 0 (entriesOf 0 fs))) ≡ landed fit row (joined recordWords (recordsOf s 0 fs))
+  rowed : landed (entriesFit s (entriesOf 0 fs) (length room) (places row)) row (joined entryWords (salvagedRow s 0 (entriesOf 0 fs))) ≡ landed fit row (joined recordWords (recordsOf s 0 0 fs))
   rowed = ap₂ (λ (b : Bool) (x : List ℕ). landed b row x) fits (entries-words s 0 0 fs)
 
   pub as-read-words : allFrames s 0 ≡ frames fs q → NoneFull s 0 fs → (n n′ : ℕ) (room-after row-after answer room-after′ row-after′ answer′ : List ℕ)
@@ -82,6 +82,6 @@ module _ (s : List ℕ) (fs : List Frame) (q : ℕ) (room row words words′ : L
             b .row-is
             ∙ ap (λ (y : reading.Salvaged). landed (entriesFit s (y .entries) (length room) (places row)) row (joined entryWords (salvagedRow s 0 (y .entries)))) x
             ∙ rowed
-            ∙ sym (a .row-is ∙ ap (rowWords s (length room) row) e);
+            ∙ sym (a .row-is ∙ ap (rowWords s 0 (length room) row) e);
         words-say = same-words fit (length fs) (length (payloadsOf s fs)) q words words′ n n′ answer answer′ h h′ u v;
       }

@@ -104,14 +104,14 @@ left-none = ((λ m. let e : 0xFFFF ≤ 6 = m .lengths 0 (omega arith) in omega a
 
 -- the record of the reply, and a word of the row that stays
 abbrev left-row : List ℕ
-left-row = 0 ∷ 0 ∷ 6 ∷ 0x02 ∷ 7 ∷ 0 ∷ 1 ∷ 0 ∷ 9 ∷ []
+left-row = 0 ∷ 0 ∷ 6 ∷ 0x02 ∷ 7 ∷ 0 ∷ 1 ∷ 0 ∷ 0 ∷ 6 ∷ 9 ∷ []
 
-left-reads : (κs : Lfts 4) → lattrugone-read-all-frames.Post κs (lending left, (0, (lending (9 ∷ []), (lending (replicate 9 9), (lending (replicate 8 9), tt)))))
+left-reads : (κs : Lfts 4) → lattrugone-read-all-frames.Post κs (lending left, (0, (lending (9 ∷ []), (lending (replicate 11 9), (lending (replicate 8 9), tt)))))
     0 (lending left, (0, (lending (9 ∷ []), (lending left-row, (lending (0 ∷ 6 ∷ 1 ∷ 0 ∷ 0 ∷ 0 ∷ 0 ∷ 0 ∷ []), tt)))))
 unfolding splice laid allFrames framesFuel readAt absorb absorbFuel look payloadOf endOf frameWalk continuations walkFuel payloadsOf recordsOf joined
 left-reads κs = record { answers = record { number-is = refl; words-are = refl }; room-is = refl; row-is = refl }
 
-left-salvages : (κs : Lfts 4) → lattrugone-salvage.Post κs (lending left, (lending (9 ∷ []), (lending (replicate 9 9), (lending (replicate 8 9), tt))))
+left-salvages : (κs : Lfts 4) → lattrugone-salvage.Post κs (lending left, (lending (9 ∷ []), (lending (replicate 11 9), (lending (replicate 8 9), tt))))
     0 (lending left, (lending (9 ∷ []), (lending left-row, (lending (0 ∷ 0 ∷ 1 ∷ 0 ∷ 6 ∷ 0 ∷ 0 ∷ 0 ∷ []), tt))))
 unfolding splice laid salvaged salvageFuel readAt absorb absorbFuel look payloadOf endOf frameWalk continuations walkFuel salvagedBytes salvagedRow joined
 left-salvages κs = record { answers = record { number-is = refl; words-are = refl }; room-is = refl; row-is = refl }
@@ -119,7 +119,7 @@ left-salvages κs = record { answers = record { number-is = refl; words-are = re
 pub left-same : (κs κs′ : Lfts 4) → SameInWords 1 0 6 0 (0 ∷ 6 ∷ 1 ∷ 0 ∷ 0 ∷ 0 ∷ 0 ∷ 0 ∷ []) (9 ∷ []) left-row 0 (0 ∷ 0 ∷ 1 ∷ 0 ∷ 6 ∷ 0 ∷ 0 ∷ 0 ∷ []) (9 ∷ []) left-row
 unfolding reply payloadsOf payloadOf
 left-same κs κs′ =
-    exported-salvaged-as-read κs κs′ (lending left) (lending (9 ∷ [])) (lending (replicate 9 9)) (lending (replicate 8 9)) (lending (9 ∷ [])) (lending (replicate 9 9)) (lending (replicate 8 9))
+    exported-salvaged-as-read κs κs′ (lending left) (lending (9 ∷ [])) (lending (replicate 11 9)) (lending (replicate 8 9)) (lending (9 ∷ [])) (lending (replicate 11 9)) (lending (replicate 8 9))
     0 0 (9 ∷ []) left-row (0 ∷ 6 ∷ 1 ∷ 0 ∷ 0 ∷ 0 ∷ 0 ∷ 0 ∷ []) (9 ∷ []) left-row (0 ∷ 0 ∷ 1 ∷ 0 ∷ 6 ∷ 0 ∷ 0 ∷ 0 ∷ [])
     (reply ∷ []) 6 left-read left-none refl refl (omega arith) (omega arith) (left-reads κs) (left-salvages κs′)
 

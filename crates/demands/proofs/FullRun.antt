@@ -105,7 +105,7 @@ pub fulls-answered : (room : List ℕ) (row : List SalvageEntry) → 65528 ≤ l
 fulls-answered = answered fulls 4 65528 131082 sizes
 
 -- and so does the exported function, lent as many words as four records and an answer have
-pub fulls-in-words : (room row words : List ℕ) → 65528 ≤ length room → 32 ≤ length row → 8 ≤ length words → (n : ℕ) (room-after row-after answer : List ℕ)
+pub fulls-in-words : (room row words : List ℕ) → 65528 ≤ length room → 40 ≤ length row → 8 ≤ length words → (n : ℕ) (room-after row-after answer : List ℕ)
     → SalvagesInWords (run fulls) room row words n room-after row-after answer → (n ≡ 0) × (take 8 answer ≡ doneWords 4 65528 131082 0)
 fulls-in-words room row words h k l n room-after row-after answer p =
     let b = recovers-words fulls room row words (omega (arith, sizes)) (omega (arith, sizes)) l n room-after row-after answer p in (

@@ -81,6 +81,8 @@ handed = record {
   «payload_at» = 0;
   «payload_len» = 1;
   segments = 1;
+  at = 2;
+  end = 9;
 }
 
 small-calls : (κs κs′ : Lfts 2)
@@ -102,11 +104,11 @@ small-back κs κs′ =
     read-back κs κs′ at-two Request true true (lending (0xAA ∷ [])) (lending (replicate 11 9)) (Done (record { «correlation_id» = 7; fill = 9 })) (filled Request)
     (lending (take 9 (filled Request))) (lending (8 ∷ 8 ∷ [])) (Hands handed (standsAt 9)) (0xAA ∷ 8 ∷ []) (small-calls κs κs′) (λ u. omega (arith, u .size)) (omega arith)
 
--- the exported functions: type 5, flags 50; correlation and fill mark; then position, length, format byte, correlation, payload's length
--- and segments
+-- the exported functions: type 5, flags 50; correlation and fill mark; then position, length, format byte, correlation, payload's length,
+-- segments and its first byte
 small-exported : (κs κs′ : Lfts 3)
     → ExportedCalls κs κs′ 7 2 5 0x50 NoReply (lending (0xAA ∷ [])) (lending (replicate 11 9)) (lending (replicate 8 9)) 0 (filled NoReply) (0 ∷ 0 ∷ 7 ∷ 9 ∷ 0 ∷ 0 ∷ 0 ∷ 0 ∷ [])
-    (lending (take 9 (filled NoReply))) (lending (8 ∷ 8 ∷ [])) (lending (replicate 9 9)) 0 (0xAA ∷ 8 ∷ []) (0 ∷ 9 ∷ 7 ∷ 0x55 ∷ 7 ∷ 1 ∷ 1 ∷ 0 ∷ 9 ∷ [])
+    (lending (take 9 (filled NoReply))) (lending (8 ∷ 8 ∷ [])) (lending (replicate 9 9)) 0 (0xAA ∷ 8 ∷ []) (0 ∷ 9 ∷ 7 ∷ 0x55 ∷ 7 ∷ 1 ∷ 1 ∷ 2 ∷ 9 ∷ [])
 unfolding written chunks chunksFuel splice laid readAt absorb absorbFuel look payloadOf endOf frameWalk continuations walkFuel
 small-exported κs κs′ =
     record {
@@ -120,10 +122,10 @@ small-exported κs κs′ =
       reads = record { answers = record { number-is = refl; words-are = refl }; room-is = refl };
     }
 
-pub small-in-words : (κs κs′ : Lfts 3) → ReadAgainInWords (small NoReply) 2 0 (0 ∷ 0 ∷ 7 ∷ 9 ∷ 0 ∷ 0 ∷ 0 ∷ 0 ∷ []) (8 ∷ 8 ∷ []) 0 (0 ∷ 9 ∷ 7 ∷ 0x55 ∷ 7 ∷ 1 ∷ 1 ∷ 0 ∷ 9 ∷ []) (0xAA ∷ 8 ∷ [])
+pub small-in-words : (κs κs′ : Lfts 3) → ReadAgainInWords (small NoReply) 2 0 (0 ∷ 0 ∷ 7 ∷ 9 ∷ 0 ∷ 0 ∷ 0 ∷ 0 ∷ []) (8 ∷ 8 ∷ []) 0 (0 ∷ 9 ∷ 7 ∷ 0x55 ∷ 7 ∷ 1 ∷ 1 ∷ 2 ∷ 9 ∷ []) (0xAA ∷ 8 ∷ [])
 small-in-words κs κs′ =
     exported-read-back κs κs′ 7 2 5 0x50 NoReply (lending (0xAA ∷ [])) (lending (replicate 11 9)) (lending (replicate 8 9)) 0 (filled NoReply) (0 ∷ 0 ∷ 7 ∷ 9 ∷ 0 ∷ 0 ∷ 0 ∷ 0 ∷ [])
-    (lending (take 9 (filled NoReply))) (lending (8 ∷ 8 ∷ [])) (lending (replicate 9 9)) 0 (0xAA ∷ 8 ∷ []) (0 ∷ 9 ∷ 7 ∷ 0x55 ∷ 7 ∷ 1 ∷ 1 ∷ 0 ∷ 9 ∷ []) (small-exported κs κs′)
+    (lending (take 9 (filled NoReply))) (lending (8 ∷ 8 ∷ [])) (lending (replicate 9 9)) 0 (0xAA ∷ 8 ∷ []) (0 ∷ 9 ∷ 7 ∷ 0x55 ∷ 7 ∷ 1 ∷ 1 ∷ 2 ∷ 9 ∷ []) (small-exported κs κs′)
     (λ u. omega (arith, u .size)) (omega arith)
 
 -- ---- a frame of 65,526 bytes, which is 32,761 plus 32,765
@@ -212,10 +214,10 @@ full-in-words κs κs′ =
     exported-not-whole κs κs′ 7 0 1 0 Request (lending big) (lending zeros) (lending (replicate 8 9)) 0 (written full) (0 ∷ 0 ∷ 7 ∷ 65534 ∷ 0 ∷ 0 ∷ 0 ∷ 0 ∷ [])
     (lending (written full)) (lending []) (lending (replicate 8 9)) 1 [] (1 ∷ replicate 7 0) (full-exported κs κs′) full-unreadable
 
--- ---- two frames, read at once, into a room of seven bytes and a row of seventeen words
+-- ---- two frames, read at once, into a room of seven bytes and a row of twenty-one words
 
 abbrev pair-row : List ℕ
-pair-row = 0 ∷ 0 ∷ 7 ∷ 0x42 ∷ 1 ∷ 1 ∷ 1 ∷ 0 ∷ 0 ∷ 1 ∷ 11 ∷ 0x13 ∷ 1 ∷ 5 ∷ 1 ∷ 0 ∷ 9 ∷ []
+pair-row = 0 ∷ 0 ∷ 7 ∷ 0x42 ∷ 1 ∷ 1 ∷ 1 ∷ 0 ∷ 0 ∷ 7 ∷ 0 ∷ 1 ∷ 11 ∷ 0x13 ∷ 1 ∷ 5 ∷ 1 ∷ 0 ∷ 7 ∷ 18 ∷ 9 ∷ []
 
 abbrev pair-room : List ℕ
 pair-room = 0xAA ∷ 0 ∷ 5 ∷ 0x24 ∷ 0x1B ∷ 1 ∷ 9 ∷ []
@@ -223,7 +225,7 @@ pair-room = 0xAA ∷ 0 ∷ 5 ∷ 0x24 ∷ 0x1B ∷ 1 ∷ 9 ∷ []
 abbrev pair-words : List ℕ
 pair-words = 0 ∷ 18 ∷ 2 ∷ 6 ∷ 0 ∷ 0 ∷ 0 ∷ 0 ∷ []
 
-pair-calls : (κs : Lfts 4) → lattrugone-read-all-frames.Post κs (lending (joined written (pair false)), (0, (lending (replicate 7 9), (lending (replicate 17 9), (lending (replicate 8 9), tt)))))
+pair-calls : (κs : Lfts 4) → lattrugone-read-all-frames.Post κs (lending (joined written (pair false)), (0, (lending (replicate 7 9), (lending (replicate 21 9), (lending (replicate 8 9), tt)))))
     0 (lending (joined written (pair false)), (0, (lending pair-room, (lending pair-row, (lending pair-words, tt)))))
 unfolding pair reply object joined written chunks chunksFuel splice laid allFrames framesFuel readAt absorb absorbFuel look payloadOf endOf frameWalk continuations walkFuel payloadsOf recordsOf row-words.joined
 pair-calls κs = record { answers = record { number-is = refl; words-are = refl }; room-is = refl; row-is = refl }
@@ -232,30 +234,30 @@ pair-sizes : (length (payloads (pair false)) ≡ 6) × (length (pair false) ≡ 
 unfolding pair reply object payloads
 pair-sizes = (refl, refl)
 
-pub pair-in-words : (κs : Lfts 4) → AllBackInWords (pair false) (replicate 7 9) (replicate 17 9) 0 pair-room pair-row pair-words
+pub pair-in-words : (κs : Lfts 4) → AllBackInWords (pair false) (replicate 7 9) (replicate 21 9) 0 pair-room pair-row pair-words
 pair-in-words κs =
-    exported-all-read-back κs (lending (joined written (pair false))) (lending (replicate 7 9)) (lending (replicate 17 9)) (lending (replicate 8 9)) 0 pair-room pair-row pair-words
+    exported-all-read-back κs (lending (joined written (pair false))) (lending (replicate 7 9)) (lending (replicate 21 9)) (lending (replicate 8 9)) 0 pair-room pair-row pair-words
     (pair false) (pair-alone false) refl (omega (arith, pair-sizes)) (omega (arith, pair-sizes)) (omega arith) (pair-calls κs)
 
 -- ---- a spoilt frame between two good ones, salvaged
 
 -- the reply; 2 at byte 7, with the byte that stands there; the object, its payload at byte 1 of the room
 abbrev three-row : List ℕ
-three-row = 0 ∷ 0 ∷ 7 ∷ 0x42 ∷ 1 ∷ 1 ∷ 1 ∷ 0 ∷ 2 ∷ 7 ∷ 0x55 ∷ 0 ∷ 0 ∷ 0 ∷ 0 ∷ 0 ∷ 0 ∷ 1 ∷ 11 ∷ 0x13 ∷ 1 ∷ 5 ∷ 1 ∷ 0 ∷ 9 ∷ []
+three-row = 0 ∷ 0 ∷ 7 ∷ 0x42 ∷ 1 ∷ 1 ∷ 1 ∷ 0 ∷ 0 ∷ 7 ∷ 2 ∷ 7 ∷ 0x55 ∷ 0 ∷ 0 ∷ 0 ∷ 0 ∷ 0 ∷ 7 ∷ 14 ∷ 0 ∷ 1 ∷ 11 ∷ 0x13 ∷ 1 ∷ 5 ∷ 1 ∷ 0 ∷ 14 ∷ 25 ∷ 9 ∷ []
 
 abbrev three-words : List ℕ
 three-words = 0 ∷ 0 ∷ 3 ∷ 6 ∷ 25 ∷ 0 ∷ 0 ∷ 0 ∷ []
 
-three-calls : (κs : Lfts 4) → lattrugone-salvage.Post κs (lending (run three), (lending (replicate 7 9), (lending (replicate 25 9), (lending (replicate 8 9), tt))))
+three-calls : (κs : Lfts 4) → lattrugone-salvage.Post κs (lending (run three), (lending (replicate 7 9), (lending (replicate 31 9), (lending (replicate 8 9), tt))))
     0 (lending (run three), (lending pair-room, (lending three-row, (lending three-words, tt))))
 unfolding splice laid salvaged salvageFuel readAt absorb absorbFuel look payloadOf endOf frameWalk continuations walkFuel salvagedBytes salvagedRow row-words.joined
 three-calls κs =
-    subst (λ (s : List ℕ). SalvagesInWords s (replicate 7 9) (replicate 25 9) (replicate 8 9) 0 pair-room three-row three-words) (sym three-run)
+    subst (λ (s : List ℕ). SalvagesInWords s (replicate 7 9) (replicate 31 9) (replicate 8 9) 0 pair-room three-row three-words) (sym three-run)
     (record { answers = record { number-is = refl; words-are = refl }; room-is = refl; row-is = refl })
 
-pub three-in-words : (κs : Lfts 4) → RecoveredInWords three (replicate 7 9) (replicate 25 9) 0 pair-room three-row three-words
+pub three-in-words : (κs : Lfts 4) → RecoveredInWords three (replicate 7 9) (replicate 31 9) 0 pair-room three-row three-words
 three-in-words κs =
-    exported-salvaged-back κs (lending (run three)) (lending (replicate 7 9)) (lending (replicate 25 9)) (lending (replicate 8 9)) 0 pair-room three-row three-words
+    exported-salvaged-back κs (lending (run three)) (lending (replicate 7 9)) (lending (replicate 31 9)) (lending (replicate 8 9)) 0 pair-room three-row three-words
     three refl (omega (arith, three-sizes)) (omega (arith, three-sizes)) (omega arith) (three-calls κs)
 
 -- with any room of six bytes and any row of two records, whatever the contract of `read_all_frames` allows on the two frames answers so
@@ -285,6 +287,8 @@ asked-frame = record {
   «payload_at» = 0;
   «payload_len» = 1;
   segments = 1;
+  at = 0;
+  end = 7;
 }
 
 pub asked-back : (κs : Lfts 2) → StructureBack (layouts.asking true) layouts.asked (8 ∷ 8 ∷ []) (Hands asked-frame (standsAt 7)) (0xC1 ∷ 8 ∷ [])
@@ -333,6 +337,8 @@ no-reply-frame = record {
   «payload_at» = 0;
   «payload_len» = 0;
   segments = 1;
+  at = 0;
+  end = 6;
 }
 
 pub no-reply-back : (κs : Lfts 2) → StructureBack layouts.noReply layouts.unanswered (9 ∷ []) (Hands no-reply-frame (standsAt 6)) (9 ∷ [])
@@ -355,6 +361,8 @@ taken = record {
   «payload_at» = 0;
   «payload_len» = 0;
   segments = 1;
+  at = 0;
+  end = 6;
 }
 
 pub taken-twice : (κs κs′ : Lfts 2) (κs″ : Lfts 1) → (_≡_ {A = FrameRead} (Hands taken (standsAt 6)) (Hands taken (standsAt 6))) × (_≡_ {A = List ℕ} (9 ∷ []) (9 ∷ []))
@@ -409,9 +417,9 @@ all-lost-refused κs =
     exported-all-read-refused nines 2 (2 ∷ 6 ∷ replicate 6 0) (λ e. omega arith) (lending (replicate 3 9)) (replicate 3 9) κs (lending p8) (lending (replicate 16 9)) (replicate 16 9) 0
     (record { answers = record { number-is = refl; words-are = refl }; room-is = refl; row-is = refl })
 
--- salvage has two entries for it, and a row of fifteen words has place for one: 9, and two records are needed
-pub short-refused : (κs : Lfts 4) → RefusedInWords (replicate 8 9) 9 (9 ∷ 0 ∷ 0 ∷ 2 ∷ replicate 4 0) × (_≡_ {A = List ℕ} (replicate 3 9) (replicate 3 9)) × (_≡_ {A = List ℕ} (replicate 15 9) (replicate 15 9))
+-- salvage has two entries for it, and a row of nineteen words has place for one: 9, and two records are needed
+pub short-refused : (κs : Lfts 4) → RefusedInWords (replicate 8 9) 9 (9 ∷ 0 ∷ 0 ∷ 2 ∷ replicate 4 0) × (_≡_ {A = List ℕ} (replicate 3 9) (replicate 3 9)) × (_≡_ {A = List ℕ} (replicate 19 9) (replicate 19 9))
 unfolding splice laid salvaged salvageFuel readAt absorb absorbFuel look payloadOf endOf frameWalk continuations walkFuel salvagedBytes salvagedRow row-words.joined
 short-refused κs =
-    exported-salvage-refused nines 9 (9 ∷ 0 ∷ 0 ∷ 2 ∷ replicate 4 0) (λ e. omega arith) (lending (replicate 3 9)) (replicate 3 9) κs (lending p8) (lending (replicate 15 9)) (replicate 15 9)
+    exported-salvage-refused nines 9 (9 ∷ 0 ∷ 0 ∷ 2 ∷ replicate 4 0) (λ e. omega arith) (lending (replicate 3 9)) (replicate 3 9) κs (lending p8) (lending (replicate 19 9)) (replicate 19 9)
     (record { answers = record { number-is = refl; words-are = refl }; room-is = refl; row-is = refl })

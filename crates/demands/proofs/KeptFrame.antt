@@ -43,8 +43,8 @@ use Rattle.demands.proofs.KeptMeaning.{IsFrame, InWords, behind, Writte
 -- ---- a frame that is handed out
 
 -- its record
-pub is-frame : (f : Sent) (s : List ℕ) (at : ℕ) (g : Frame) → Gives f s g → IsFrame f at (recordOf s at g)
-is-frame f s at g w =
+pub is-frame : (f : Sent) (s : List ℕ) (p at : ℕ) (g : Frame) → Gives f s g → IsFrame f at (recordOf s p at g)
+is-frame f s p at g w =
     record {
       type = w .type;
       flags = λ i. record { chained = w .chained i; «continue_on_error» = w .no-continue i; «same_correlation» = w .same i };
@@ -53,9 +53,9 @@ is-frame f s at g w =
       payload-len = ap length (w .payload);
     }
 
--- and the record's words
-pub in-words : (f : Sent) (at place : ℕ) (d : DssFrame) → IsFrame f at d → InWords f place (frameAt place d)
-in-words f at place d w =
+-- and its words, with whatever stands behind them
+pub in-words : (f : Sent) (at place last : ℕ) (rest : List ℕ) (d : DssFrame) → IsFrame f at d → InWords f place (frameAt place last d ++ rest)
+in-words f at place last rest d w =
     record {
       number = refl;
       place-is = refl;
@@ -94,11 +94,11 @@ module _ (f : Sent) (v : Sendable f) (s : List ℕ) (p : ℕ) (d : drop p s ≡ 
 
   -- what the reader's call answers, and what its room then holds
   given-last : (Unreadable f → ⊥) → (size : ℕ) → length (f .payload) ≤ size
-      → given s p size (readAt Reader s p) ≡ Hands (recordOf s 0 (sentAt f p)) (standsAt (behind p f))
+      → given s p size (readAt Reader s p) ≡ Hands (recordOf s p 0 (sentAt f p)) (standsAt (behind p f))
   given-last u size h =
       ap (given s p size) (read-last u)
       ∙ pick-yes _ _ (le-leb (length (payloadOf s (sentAt f p .segments))) size (omega (arith, ap length (gives-last .payload))))
-      ∙ ap (λ (n : ℕ). Hands (recordOf s 0 (sentAt f p)) (standsAt n)) (segments-end (framed-written f) p)
+      ∙ ap (λ (n : ℕ). Hands (recordOf s p 0 (sentAt f p)) (standsAt n)) (segments-end (framed-written f) p)
 
   room-last : (Unreadable f → ⊥) → (room : List ℕ) → length (f .payload) ≤ length room → roomRead s room (readAt Reader s p) ≡ splice room 0 (f .payload)
   room-last u room h = ap (roomRead s room) (read-last u) ∙ ap (laid room 0) (gives-last .payload) ∙ laid-fits room 0 (f .payload) (omega arith)
@@ -130,9 +130,9 @@ module _ (w : DssWriter) (f : Sent) (v : Sendable f) (room laid-down run into : 
   read-again u k =
       record {
         wrote-is = p .answers ∙ wrote-is w f (length room) h;
-        frame = recordOf run 0 (sentAt f (w .fill));
+        frame = recordOf run (w .fill) 0 (sentAt f (w .fill));
         read-is = q .answers ∙ given-last f v run (w .fill) at-mark u (length into) k;
-        gives = is-frame f run 0 (sentAt f (w .fill)) (gives-last f v run (w .fill) at-mark);
+        gives = is-frame f run (w .fill) 0 (sentAt f (w .fill)) (gives-last f v run (w .fill) at-mark);
         room-is = q .room-is ∙ room-last f v run (w .fill) at-mark u into k;
       }
 
@@ -173,8 +173,8 @@ module _ (found : TypeFound) (t : DssType) (ft : found ≡ Is t) (correlation fi
 
   pub read-again-words : (Unreadable f → ⊥) → length (f .payload) ≤ length into → ReadAgainInWords f fill n answer into n′ answer′ after
   read-again-words u i =
-      let d : DssFrame = recordOf run 0 (sentAt f fill) in
-      let w : List ℕ = frameAt (behind fill f) d in
+      let d : DssFrame = recordOf run fill 0 (sentAt f fill) in
+      let w : List ℕ = frameAt (behind fill f) fill d in
       let a : Answered w words′ n′ answer′ =
       subst (λ (x : FrameRead). Answered (frameWords x) words′ n′ answer′) (given-last f v run fill at-mark′ u (length into) i) (q .answers) in
       record {
@@ -183,7 +183,7 @@ module _ (found : TypeFound) (t : DssType) (ft : found ≡ Is t) (correlation fi
         read = a .number-is;
         read-says =
             subst (InWords f (behind fill f)) (sym (answer-says refl k′ a))
-            (in-words f 0 (behind fill f) d (is-frame f run 0 (sentAt f fill) (gives-last f v run fill at-mark′)));
+            (in-words f 0 (behind fill f) fill [] d (is-frame f run fill 0 (sentAt f fill) (gives-last f v run fill at-mark′)));
         room-is = q .room-is ∙ room-last f v run fill at-mark′ u into i;
       }
 

@@ -75,7 +75,7 @@ module _ (found : TypeFound) (t : DssType) (ft : found ≡ Is t) (correlation fi
 -- ---- what is read
 
 -- a frame's words say the structure that it does
-structure-words : (w : Structure) (b : List ℕ) (g : Frame) (position : ℕ) → w .type ≤ 5 → Says w b g → StructureInWords w position (frameAt position (recordOf b 0 g))
+structure-words : (w : Structure) (b : List ℕ) (g : Frame) (position : ℕ) → w .type ≤ 5 → Says w b g → StructureInWords w position (frameAt position 0 (recordOf b 0 0 g))
 structure-words w b g position h s =
     let flags : g .head .flags ≡ flagsIn w = λ i. record { chained = s .chained i; «continue_on_error» = s .on-error i; «same_correlation» = s .same i } in
     let byte : formatByte (g .head) ≡ w .type + flagsByte (flagsIn w) = λ i. s .type i + flagsByte (flags i) in
@@ -103,7 +103,7 @@ module _ (w : Structure) (b : List ℕ) (l : Dss w b) (room words : List ℕ) (k
   pub structure-back : (FullLast l → ⊥) → length (w .payload) ≤ length room → StructureBackInWords w b room number answer after
   structure-back n h =
       let x = layout-back w b l room r after as-call n h in
-      let a = answers (Hands (recordOf b 0 (x .read)) (standsAt (length b))) (x .is) in
+      let a = answers (Hands (recordOf b 0 0 (x .read)) (standsAt (length b))) (x .is) in
       record {
         number-is = a .number-is;
         says = subst (StructureInWords w (length b)) (sym (answer-says refl k a)) (structure-words w b (x .read) (length b) (allowed-in l .type .1) (x .says));

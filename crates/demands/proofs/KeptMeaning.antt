@@ -26,8 +26,8 @@ use Rattle.dss_reader.specs.declared.FrameRead.the-variants.{Frame as Hands, Re
 use Rattle.gateway_words.specs.Words.{refusalWords, doneWords, Answered}
 use Rattle.gateway_reader.specs.ReaderWords.{frameWords}
 use Rattle.gateway_frames.specs.FramesWords.{framesWords, rowWords}
-use Rattle.gateway_row.specs.RowWords.{places}
-use Rattle.gateway_row.specs.RecordBack.{eights}
+use Rattle.gateway_row.specs.RowWords.{recordLen, places}
+use Rattle.gateway_row.specs.RecordBack.{cut}
 use Rattle.layouts.specs.DssLayout.{Structure, Dss}
 use Rattle.demands.specs.Demands.{Item, good, spoilt, run, bytesOf}
 use Rattle.demands.specs.AllFrames.{joined}
@@ -49,7 +49,7 @@ pub record IsFrame (f : Sent) (place : ℕ) (d : DssFrame) : Type 0 where
   pub payload-at : d .«payload_at» ≡ place
   pub payload-len : d .«payload_len» ≡ length (f .payload)
 
--- Eight words give it back: number 0, a place, type and flags in the format byte, correlation, the payload's length. The place is
+-- Words give it back: number 0, a place, type and flags in the format byte, correlation, the payload's length. The place is
 -- the payload's in the room where the words are a row's, and the position behind the frame where they are an answer's.
 pub record InWords (f : Sent) (place : ℕ) (w : List ℕ) : Type 0 where
   pub number : getD w 0 0 ≡ 0
@@ -108,7 +108,7 @@ pub record NotReadAgainInWords (f : Sent) (fill number : ℕ) (words : List ℕ)
 -- the structure comes back: its payload at the room's start, the rest of the room as it was, and the run wholly consumed
 pub record StructureBack (w : Structure) (b room : List ℕ) (r : FrameRead) (after : List ℕ) : Type 0 where
   pub read : Frame
-  pub is : r ≡ Hands (recordOf b 0 read) (standsAt (length b))
+  pub is : r ≡ Hands (recordOf b 0 0 read) (standsAt (length b))
   pub says : Says w b read
   pub room-is : after ≡ splice room 0 (w .payload)
 
@@ -156,7 +156,7 @@ pub record AnsweredInWordsAs (s : List ℕ) (p : ℕ) (room words : List ℕ) (r
 pub record AllAnsweredInWordsAs (s : List ℕ) (p : ℕ) (room row words : List ℕ) (read : AllRead) (number : ℕ) (room-after row-after answer : List ℕ) : Type 0 where
   pub answer-is : Answered (framesWords (givenAll s p (length room) (places row) read)) words number answer
   pub room-is : room-after ≡ roomAll s room (places row) read
-  pub row-is : row-after ≡ rowWords s (length room) row read
+  pub row-is : row-after ≡ rowWords s p (length room) row read
 
 -- ---- all frames, in words
 
@@ -177,16 +177,16 @@ pub record AllBackInWords (fs : List Sent) (room row : List ℕ) (number : ℕ) 
   pub number-is : number ≡ 0
   pub words-say : take 8 words ≡ 0 ∷ length (joined written fs) ∷ length fs ∷ length (payloads fs) ∷ 0 ∷ 0 ∷ 0 ∷ 0 ∷ []
   pub room-is : room-after ≡ splice room 0 (payloads fs)
-  pub row-says : AllInWords room-after 0 fs (eights (length fs) row-after)
-  pub row-rest : drop (8 * length fs) row-after ≡ drop (8 * length fs) row
+  pub row-says : AllInWords room-after 0 fs (cut recordLen (length fs) row-after)
+  pub row-rest : drop (length fs * recordLen) row-after ≡ drop (length fs * recordLen) row
 
 -- ---- salvaged, in words
 
 -- "every other frame ... exactly as written", its payload in the room where its words say, "and one refusal at the first byte of
--- each spoilt frame": the number, the place p and the values
+-- each spoilt frame": the number, the place p and the values. "Demands 2 and 3 read over the old fields as before": a record's eight
 abbrev pub ItemInWords : List ℕ → ℕ → ℕ → Item written → List ℕ → Type 0
 ItemInWords room p at (good f _ _) w = InWords f at w × PayloadAt room at f
-ItemInWords room p at (spoilt f _ _ b x) w = w ≡ refusalWords (record { why = x .reason .why; place = p })
+ItemInWords room p at (spoilt f _ _ b x) w = take 8 w ≡ refusalWords (record { why = x .reason .why; place = p })
 
 -- "in order", "and nothing else"
 unfoldable pub ItemsInWords : List ℕ → ℕ → ℕ → List (Item written) → List (List ℕ) → Type 0
@@ -201,8 +201,8 @@ pub record RecoveredInWords (items : List (Item written)) (room row : List ℕ) 
   pub number-is : number ≡ 0
   pub words-say : take 8 words ≡ doneWords (length items) (length (allBytes items)) (length (run items)) 0
   pub room-is : room-after ≡ splice room 0 (allBytes items)
-  pub row-says : ItemsInWords room-after 0 0 items (eights (length items) row-after)
-  pub row-rest : drop (8 * length items) row-after ≡ drop (8 * length items) row
+  pub row-says : ItemsInWords room-after 0 0 items (cut recordLen (length items) row-after)
+  pub row-rest : drop (length items * recordLen) row-after ≡ drop (length items * recordLen) row
 
 -- ---- salvaged as read, in words
 

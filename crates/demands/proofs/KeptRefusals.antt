@@ -132,12 +132,12 @@ module _ (s : List ℕ) (p : ℕ) (room : List ℕ) (y : Refused) (d : DssReader
   all-kept row room-after row-after q =
       let e = q .answers in (
         q .room-is ∙ room-kept (length row) (allFrames s p) e,
-        q .row-is ∙ none-read s p (length room) (length row) (allFrames s p) y d e (λ z. rowAll s (length room) row z ≡ row) (λ r i j. refl) (λ fs k t i j. pick-no _ _ t),
+        q .row-is ∙ none-read s p (length room) (length row) (allFrames s p) y d e (λ z. rowAll s p (length room) row z ≡ row) (λ r i j. refl) (λ fs k t i j. pick-no _ _ t),
         stands-kept (length row) e,
       )
 
-  row-kept : (row : List ℕ) → NoneRead y d ≡ givenAll s p (length room) (places row) (allFrames s p) → rowWords s (length room) row (allFrames s p) ≡ row
-  row-kept row e = none-read s p (length room) (places row) (allFrames s p) y d e (λ z. rowWords s (length room) row z ≡ row) (λ r i j. refl) (λ fs k t i j. pick-no _ _ t)
+  row-kept : (row : List ℕ) → NoneRead y d ≡ givenAll s p (length room) (places row) (allFrames s p) → rowWords s p (length room) row (allFrames s p) ≡ row
+  row-kept row e = none-read s p (length room) (places row) (allFrames s p) y d e (λ z. rowWords s p (length room) row z ≡ row) (λ r i j. refl) (λ fs k t i j. pick-no _ _ t)
 
 -- ---- salvage
 

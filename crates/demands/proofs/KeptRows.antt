@@ -12,7 +12,7 @@ use Rattle.wire.specs.Places.{here-next, here-part}
 use Rattle.wire.specs.Splice.{splice-tail}
 use Rattle.answer.specs.declared.Refusal.{Refusal}
 use Rattle.answer.specs.declared.Refused.{Refused}
-use Rattle.dss_frame.specs.Segments.{payloadOf}
+use Rattle.dss_frame.specs.Segments.{payloadOf, endOf}
 use Rattle.dss_frame.specs.Reading.{Frame, Read, frame, refused}
 use Rattle.dss_frame.specs.Records.{recordOf, recordsOf, payloadsOf}
 use Rattle.dss_frame.specs.Frames.{allFrames}
@@ -21,16 +21,16 @@ use Rattle.dss_frame.specs.Written.{Sent, written}
 use Rattle.dss_frame.specs.declared.DssFrame.{DssFrame}
 use Rattle.dss_reader.specs.Reader.{standsAt, framesFit, givenAll, roomAll}
 use Rattle.dss_reader.specs.declared.FramesRead.the-variants.{Frames}
-use Rattle.dss_salvage.specs.SalvageCall.{entryOf, salvagedBytes, salvagedRow, entriesFit, given}
+use Rattle.dss_salvage.specs.SalvageCall.{entryAt, salvagedBytes, salvagedRow, entriesFit, given}
 use Rattle.dss_salvage.specs.SalvageCall as call
 use Rattle.dss_salvage.specs.declared.SalvageEntry.{SalvageEntry}
 use Rattle.gateway_words.specs.Words.{refusalWords, doneWords, Answered}
-use Rattle.gateway_row.specs.RowWords.{recordWords, places}
+use Rattle.gateway_row.specs.RowWords.{stretch, recordWords, recordLen, places}
 use Rattle.gateway_row.specs.RowWords as row-words
-use Rattle.gateway_row.specs.RecordBack.{eights, row-says, row-rest}
+use Rattle.gateway_row.specs.RecordBack.{cut, row-says, row-rest}
 use Rattle.gateway_frames.specs.FramesWords.{framesWords, rowWords, ReadsAllFrames}
 use Rattle.gateway_salvage.specs.SalvageWords.{entryWords, salvagedWords, SalvagesInWords}
-use Rattle.gateway_salvage.proofs.EntryBack.{entry-eight}
+use Rattle.gateway_salvage.proofs.EntryBack.{entry-long}
 use Rattle.demands.specs.Demands.{Item, good, spoilt, run, bytesOf, DueRead, AllDue}
 use Rattle.demands.specs.AllFrames.{AllAlone, joined, AllGive}
 use Rattle.demands.proofs.AllFramesBack.{reads-all}
@@ -46,27 +46,28 @@ payload-at room x more rest at d = d ∙ append-assoc x more rest
 
 -- ---- all frames
 
-all-in-words : (s room rest : List ℕ) (at : ℕ) (fs : List Sent) (gs : List Frame) → AllGive s fs gs → drop at room ≡ payloads fs ++ rest
-    → AllInWords room at fs (map recordWords (recordsOf s at gs))
+all-in-words : (s room rest : List ℕ) (p at : ℕ) (fs : List Sent) (gs : List Frame) → AllGive s fs gs → drop at room ≡ payloads fs ++ rest
+    → AllInWords room at fs (map recordWords (recordsOf s p at gs))
 unfolding AllGive AllInWords payloads recordsOf
-all-in-words s room rest at [] [] a d = tt
-all-in-words s room rest at [] (g ∷ gs) a d = absurd a
-all-in-words s room rest at (f ∷ fs) [] a d = absurd a
-all-in-words s room rest at (f ∷ fs) (g ∷ gs) a d =
+all-in-words s room rest p at [] [] a d = tt
+all-in-words s room rest p at [] (g ∷ gs) a d = absurd a
+all-in-words s room rest p at (f ∷ fs) [] a d = absurd a
+all-in-words s room rest p at (f ∷ fs) (g ∷ gs) a d =
     let q : ℕ = at + length (f .payload) in
     let d₁ : drop at room ≡ f .payload ++ (payloads fs ++ rest) = payload-at room (f .payload) (payloads fs) rest at d in
-    let ih : AllInWords room q fs (map recordWords (recordsOf s q gs)) =
-    all-in-words s room rest q fs gs (a .1) (here-next room (f .payload) (payloads fs ++ rest) at q d₁ refl) in (
-      (in-words f at at (recordOf s at g) (is-frame f s at g (a .0)), here-part room (f .payload) (payloads fs ++ rest) at q d₁ (omega arith)),
-      subst (λ (m : ℕ). AllInWords room q fs (map recordWords (recordsOf s (at + m) gs))) (sym (ap length (a .0 .payload))) ih,
+    let e : ℕ = endOf p (g .segments) in
+    let ih : AllInWords room q fs (map recordWords (recordsOf s e q gs)) =
+    all-in-words s room rest e q fs gs (a .1) (here-next room (f .payload) (payloads fs ++ rest) at q d₁ refl) in (
+      (in-words f at at 0 (stretch p e) (recordOf s p at g) (is-frame f s p at g (a .0)), here-part room (f .payload) (payloads fs ++ rest) at q d₁ (omega arith)),
+      subst (λ (m : ℕ). AllInWords room q fs (map recordWords (recordsOf s e (at + m) gs))) (sym (ap length (a .0 .payload))) ih,
     )
 
-records-long : (s : List ℕ) (at : ℕ) (gs : List Frame) → length (recordsOf s at gs) ≡ length gs
+pub records-long : (s : List ℕ) (p at : ℕ) (gs : List Frame) → length (recordsOf s p at gs) ≡ length gs
 unfolding recordsOf
-records-long s at [] = refl
-records-long s at (g ∷ gs) = ap suc (records-long s (at + length (payloadOf s (g .segments))) gs)
+records-long s p at [] = refl
+records-long s p at (g ∷ gs) = ap suc (records-long s (endOf p (g .segments)) (at + length (payloadOf s (g .segments))) gs)
 
-pub frames-back-words : (fs : List Sent) → AllAlone fs → (room row words : List ℕ) → length (payloads fs) ≤ length room → 8 * length fs ≤ length row → 8 ≤ length words
+pub frames-back-words : (fs : List Sent) → AllAlone fs → (room row words : List ℕ) → length (payloads fs) ≤ length room → length fs * recordLen ≤ length row → 8 ≤ length words
     → (n : ℕ) (room-after row-after answer : List ℕ)
     → ReadsAllFrames (joined written fs) 0 room row words n room-after row-after answer → AllBackInWords fs room row n room-after row-after answer
 frames-back-words fs a room row words h k l n room-after row-after answer p =
@@ -74,8 +75,8 @@ frames-back-words fs a room row words h k l n room-after row-after answer p =
     let b = reads-all fs a in
     let gs : List Frame = b .read in
     let e = given-payloads s fs gs (b .gives) in
-    let rs : List DssFrame = recordsOf s 0 gs in
-    let c : length rs ≡ length fs = records-long s 0 gs ∙ e .1 in
+    let rs : List DssFrame = recordsOf s 0 0 gs in
+    let c : length rs ≡ length fs = records-long s 0 0 gs ∙ e .1 in
     let fit : framesFit s gs (length room) (places row) ≡ true =
     and-both _ _ (le-leb (length (payloadsOf s gs)) (length room) (omega (arith, ap length (e .0)))) (le-leb (length gs) (places row) (omega (arith, e .1))) in
     let said : framesWords (givenAll s 0 (length room) (places row) (allFrames s 0)) ≡ framesWords (Frames (length fs) (length (payloads fs)) (standsAt (length s))) =
@@ -86,18 +87,18 @@ frames-back-words fs a room row words h k l n room-after row-after answer p =
     subst (λ (x : List ℕ). Answered x words n answer) said (p .answers) in
     let room-is : room-after ≡ splice room 0 (payloads fs) =
     p .room-is ∙ ap (roomAll s room (places row)) (b .is) ∙ pick-yes _ _ fit ∙ ap (splice room 0) (e .0) in
-    let row-is : row-after ≡ splice row 0 (row-words.joined recordWords rs) = p .row-is ∙ ap (rowWords s (length room) row) (b .is) ∙ pick-yes _ _ fit in
+    let row-is : row-after ≡ splice row 0 (row-words.joined recordWords rs) = p .row-is ∙ ap (rowWords s 0 (length room) row) (b .is) ∙ pick-yes _ _ fit in
     record {
       number-is = w .number-is;
       words-say = answer-says refl l w;
       room-is = room-is;
       row-says =
           subst (AllInWords room-after 0 fs)
-          (sym (row-says recordWords (λ (d : DssFrame). refl) row rs) ∙ ap₂ eights c (sym row-is))
-          (all-in-words s room-after (drop (0 + length (payloads fs)) room) 0 fs gs (b .gives) (room-is ∙ splice-tail room 0 (payloads fs) (omega arith)));
+          (sym (row-says recordWords recordLen (λ (d : DssFrame). refl) row rs) ∙ ap₂ (cut recordLen) c (sym row-is))
+          (all-in-words s room-after (drop (0 + length (payloads fs)) room) 0 0 fs gs (b .gives) (room-is ∙ splice-tail room 0 (payloads fs) (omega arith)));
       row-rest =
-          subst (λ (m : ℕ). drop (8 * m) row-after ≡ drop (8 * m) row) c
-          (ap (drop (8 * length rs)) row-is ∙ row-rest recordWords (λ (d : DssFrame). refl) row rs);
+          subst (λ (m : ℕ). drop (m * recordLen) row-after ≡ drop (m * recordLen) row) c
+          (ap (drop (length rs * recordLen)) row-is ∙ row-rest recordWords recordLen (λ (d : DssFrame). refl) row rs);
     }
 
 -- ---- salvage
@@ -105,13 +106,13 @@ frames-back-words fs a room row words h k l n room-after row-after answer p =
 refusal-words : (r : Refused) (p : ℕ) (y : Refusal) → r .place ≡ p → r .why ≡ y → refusalWords r ≡ refusalWords (record { why = y; place = p })
 refusal-words r p y e k = ap refusalWords (λ i. record { why = k i; place = e i })
 
-item-in-words : (s room rest : List ℕ) (p at : ℕ) (i : Item written) (x : Read) → DueRead s p i x → drop at room ≡ dueBytes i ++ rest
-    → ItemInWords room p at i (entryWords (entryOf s at x))
-item-in-words s room rest p at (good f _ _) (frame g) w d =
-    (in-words f at at (recordOf s at g) (is-frame f s at g w), here-part room (f .payload) rest at (at + length (f .payload)) d (omega arith))
-item-in-words s room rest p at (good f _ _) (refused r) w d = absurd w
-item-in-words s room rest p at (spoilt f _ _ b x) (frame g) w d = absurd w
-item-in-words s room rest p at (spoilt f _ _ b x) (refused r) w d = refusal-words r p (x .reason .why) (w .0) (w .1)
+item-in-words : (s room rest : List ℕ) (p at a e : ℕ) (i : Item written) (x : Read) → DueRead s p i x → drop at room ≡ dueBytes i ++ rest
+    → ItemInWords room p at i (entryWords (entryAt s at a e x))
+item-in-words s room rest p at a e (good f _ _) (frame g) w d =
+    (in-words f at at 0 (stretch a (endOf a (g .segments))) (recordOf s a at g) (is-frame f s a at g w), here-part room (f .payload) rest at (at + length (f .payload)) d (omega arith))
+item-in-words s room rest p at a e (good f _ _) (refused r) w d = absurd w
+item-in-words s room rest p at a e (spoilt f _ _ b x) (frame g) w d = absurd w
+item-in-words s room rest p at a e (spoilt f _ _ b x) (refused r) w d = refusal-words r p (x .reason .why) (w .0) (w .1)
 
 items-in-words : (s room rest : List ℕ) (p at : ℕ) (is : List (Item written)) (es : List Entry) → AllDue s p is es → drop at room ≡ allBytes is ++ rest
     → ItemsInWords room p at is (map entryWords (salvagedRow s at es))
@@ -124,16 +125,16 @@ items-in-words s room rest p at (i ∷ is) (e ∷ es) a d =
     let d₁ : drop at room ≡ dueBytes i ++ (allBytes is ++ rest) = payload-at room (dueBytes i) (allBytes is) rest at d in
     let ih : ItemsInWords room (p + length (bytesOf i)) q is (map entryWords (salvagedRow s q es)) =
     items-in-words s room rest (p + length (bytesOf i)) q is es (a .1) (here-next room (dueBytes i) (allBytes is ++ rest) at q d₁ refl) in (
-      item-in-words s room (allBytes is ++ rest) p at i (e .read) (a .0 .read) d₁,
+      item-in-words s room (allBytes is ++ rest) p at (e .at) (e .end) i (e .read) (a .0 .read) d₁,
       subst (λ (m : ℕ). ItemsInWords room (p + length (bytesOf i)) q is (map entryWords (salvagedRow s (at + m) es))) (sym (ap length (due-bytes s p i (e .read) (a .0 .read)))) ih,
     )
 
-row-long : (s : List ℕ) (at : ℕ) (es : List Entry) → length (salvagedRow s at es) ≡ length es
+pub row-long : (s : List ℕ) (at : ℕ) (es : List Entry) → length (salvagedRow s at es) ≡ length es
 unfolding salvagedRow
 row-long s at [] = refl
 row-long s at (e ∷ es) = ap suc (row-long s (at + length (call.bytesOf s (e .read))) es)
 
-pub recovers-words : (items : List (Item written)) (room row words : List ℕ) → length (allBytes items) ≤ length room → 8 * length items ≤ length row → 8 ≤ length words
+pub recovers-words : (items : List (Item written)) (room row words : List ℕ) → length (allBytes items) ≤ length room → length items * recordLen ≤ length row → 8 ≤ length words
     → (n : ℕ) (room-after row-after answer : List ℕ)
     → SalvagesInWords (run items) room row words n room-after row-after answer → RecoveredInWords items room row n room-after row-after answer
 recovers-words items room row words h k l n room-after row-after answer p =
@@ -158,9 +159,9 @@ recovers-words items room row words h k l n room-after row-after answer p =
       room-is = room-is;
       row-says =
           subst (ItemsInWords room-after 0 0 items)
-          (sym (row-says entryWords entry-eight row rs) ∙ ap₂ eights c (sym row-is))
+          (sym (row-says entryWords recordLen entry-long row rs) ∙ ap₂ (cut recordLen) c (sym row-is))
           (items-in-words s room-after (drop (0 + length (allBytes items)) room) 0 0 items es (a .0) (room-is ∙ splice-tail room 0 (allBytes items) (omega arith)));
       row-rest =
-          subst (λ (m : ℕ). drop (8 * m) row-after ≡ drop (8 * m) row) c
-          (ap (drop (8 * length rs)) row-is ∙ row-rest entryWords entry-eight row rs);
+          subst (λ (m : ℕ). drop (m * recordLen) row-after ≡ drop (m * recordLen) row) c
+          (ap (drop (length rs * recordLen)) row-is ∙ row-rest entryWords recordLen entry-long row rs);
     }

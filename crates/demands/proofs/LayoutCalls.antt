@@ -101,7 +101,7 @@ module _ (w : Structure) (b : List ℕ) (l : Dss w b) (room : List ℕ) (r : Fra
             p .answers
             ∙ ap (given b 0 (length room)) (x .is)
             ∙ pick-yes _ _ (le-leb (length (payloadOf b (g .segments))) (length room) fits)
-            ∙ ap (λ (n : ℕ). Hands (recordOf b 0 g) (standsAt n)) (x .consumed);
+            ∙ ap (λ (n : ℕ). Hands (recordOf b 0 0 g) (standsAt n)) (x .consumed);
         says = x .says;
         room-is = p .room-is ∙ ap (roomRead b room) (x .is) ∙ ap (laid room 0) e ∙ laid-fits room 0 (w .payload) (omega arith);
       }

@@ -4,6 +4,7 @@ pub mod Standing
 pub mod SpoiltFrames
 pub mod Salvaging
 pub mod Covering
+pub mod Stretching
 pub mod WrittenLayout
 pub mod FaithfulLayout
 pub mod LayoutReads
@@ -27,13 +28,14 @@ pub mod MendingExamples
 pub mod AsRead
 pub mod ReaderKeeps
 pub mod SalvageKeeps
-pub mod SalvageClauses
 pub mod SeveralRun
 pub mod SalvageImpostors
 pub mod ReaderClauses
 pub mod KeptMeaning
 pub mod KeptFrame
 pub mod KeptRows
+pub mod StretchCalls
+pub mod SalvageClauses
 pub mod FullRun
 pub mod KeptLayouts
 pub mod DeadCalls
@@ -41,6 +43,7 @@ pub mod AsReadCalls
 pub mod FourTypesCalls
 pub mod Kept
 pub mod KeptExamples
+pub mod StretchExamples
 pub mod DeadExamples
 pub mod AsReadExamples
 pub mod KeptRefusals

@@ -45,7 +45,7 @@ given-same : (s s′ : List ℕ) (p n : ℕ) (f : Frame) → payloadOf s′ (f .
 given-same s s′ p n f e =
     ap
     (λ (b : List ℕ). pick (leb (length b) n)
-    (Hands (record { header = f .head; «payload_at» = 0; «payload_len» = length b; segments = length (f .segments) }) (standsAt (endOf p (f .segments))))
+    (Hands (record { header = f .head; «payload_at» = 0; «payload_len» = length b; segments = length (f .segments); at = p; end = endOf p (f .segments) }) (standsAt (endOf p (f .segments))))
     (NotRead (noRoom p (length b) 0) (standsAt p)))
     e
 
@@ -59,7 +59,7 @@ hands-next d e at next k = cc
 stands-behind : (s : List ℕ) (p n : ℕ) (f : Frame) (d : DssFrame) (next : DssReader) → given s p n (frame f) ≡ Hands d next → endOf p (f .segments) ≡ next .position
 stands-behind s p n f d next e =
     picked (leb (length (payloadOf s (f .segments))) n) e
-    (λ k j. ap (λ (x : DssReader). x .position) (hands-next d (recordOf s 0 f) (standsAt (endOf p (f .segments))) next j))
+    (λ k j. ap (λ (x : DssReader). x .position) (hands-next d (recordOf s p 0 f) (standsAt (endOf p (f .segments))) next j))
     (λ k j. absurd (hands-refused d next (standsAt p) _ j))
 
 -- by any test that settles what stands before
@@ -116,7 +116,7 @@ module _ (test : Complete) (stay : TakenStay (readAt Reader) test) (s t : List �
       go : (x : FrameRead) → given s p (length room) (readAt Reader s p) ≡ x → (number ≡ 0) × (take 8 answer′ ≡ take 8 answer) × (after′ ≡ after)
       go (NotRead r at) e = absurd (omega (arith, numbered (r .why), first-says (NotRead r at) e .number-is))
       go (Hands d next) e =
-          let w : List ℕ = frameAt (next .position) d in
+          let w : List ℕ = frameAt (next .position) (d .at) d in
           let said : take 8 answer ≡ w = answer-says refl k (first-says (Hands d next) e) in
           let z =
           taken-same test stay s t p room d next (Hands d next) (given (s ++ t) p (length room) (readAt Reader (s ++ t) p)) after after′

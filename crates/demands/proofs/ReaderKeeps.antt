@@ -36,7 +36,7 @@ use Rattle.demands.proofs.AllFramesBack.{reads-all}
 -- the frame comes back, its payload at the room's start, the rest of the room as it was, and the run wholly consumed
 pub record Back (f : Sent) (room : List ℕ) (r : FrameRead) (after : List ℕ) : Type 0 where
   pub read : Frame
-  pub is : r ≡ Hands (recordOf (written f) 0 read) (standsAt (length (written f)))
+  pub is : r ≡ Hands (recordOf (written f) 0 0 read) (standsAt (length (written f)))
   pub gives : Gives f (written f) read
   pub room-is : after ≡ splice room 0 (f .payload)
 
@@ -53,7 +53,7 @@ frame-back f v u room h r after p =
           p .answers
           ∙ ap (given (written f) 0 (length room)) (b .is)
           ∙ pick-yes _ _ (le-leb (length (payloadOf (written f) (g .segments))) (length room) fits)
-          ∙ ap (λ (n : ℕ). Hands (recordOf (written f) 0 g) (standsAt n)) (b .consumed);
+          ∙ ap (λ (n : ℕ). Hands (recordOf (written f) 0 0 g) (standsAt n)) (b .consumed);
       gives = b .gives;
       room-is =
           p .room-is
@@ -92,7 +92,7 @@ pub record AllBack (fs : List Sent) (room : List ℕ) (row : List DssFrame) (r :
   pub is : r ≡ Frames (length fs) (length (payloads fs)) (standsAt (length (joined written fs)))
   pub gives : AllGive (joined written fs) fs read
   pub room-is : roomAfter ≡ splice room 0 (payloads fs)
-  pub row-is : rowAfter ≡ splice row 0 (recordsOf (joined written fs) 0 read)
+  pub row-is : rowAfter ≡ splice row 0 (recordsOf (joined written fs) 0 0 read)
 
 pub frames-back : (fs : List Sent) → AllAlone fs → (room : List ℕ) (row : List DssFrame) → length (payloads fs) ≤ length room → length fs ≤ length row
     → (r : FramesRead) (roomAfter : List ℕ) (rowAfter : List DssFrame)
@@ -113,7 +113,7 @@ frames-back fs a room row h k r roomAfter rowAfter p =
           ∙ ap₂ (λ (n m : ℕ). Frames n m (standsAt (length s))) (e .1) (ap length (e .0));
       gives = b .gives;
       room-is = p .room-is ∙ ap (roomAll s room (length row)) (b .is) ∙ pick-yes _ _ fit ∙ ap (splice room 0) (e .0);
-      row-is = p .row-is ∙ ap (rowAll s (length room) row) (b .is) ∙ pick-yes _ _ fit;
+      row-is = p .row-is ∙ ap (rowAll s 0 (length room) row) (b .is) ∙ pick-yes _ _ fit;
     }
 
 -- ---- of the code

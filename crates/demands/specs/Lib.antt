@@ -8,5 +8,6 @@ pub mod NoReply
 pub mod AsRead
 pub mod Longer
 pub mod Mending
+pub mod Stretches
 pub mod DeadEdges
 pub mod Limits

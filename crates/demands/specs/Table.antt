@@ -85,7 +85,7 @@ ofRead (NotRead r reader) room = record { out = ofRefused r ∷ []; end = reader
 unfoldable pub ofEntry : List ℕ → Entry → Outcome
 unfolding handed ofRefused
 ofEntry room (EntryFrame d) = frame (handed d room)
-ofEntry room (EntryRefused r) = ofRefused r
+ofEntry room (EntryRefused r p e) = ofRefused r
 
 unfoldable pub ofObject : ObjectFound → List ℕ → Came
 unfolding ofRefused

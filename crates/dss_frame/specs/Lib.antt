@@ -4,4 +4,5 @@ pub mod Reading
 pub mod Frames
 pub mod Salvage
 pub mod Records
+pub mod Stretches
 pub mod Written

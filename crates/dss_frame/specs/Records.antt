@@ -3,13 +3,14 @@ use Prim.Native.Nat.{ℕ, _+_}
 use mathlib.Core.List.{List, [], _∷_, _++_}
 use lib.ListN.{length}
 use Rattle.dss_frame.specs.declared.DssFrame.{DssFrame}
-use Rattle.dss_frame.specs.Segments.{payloadOf}
+use Rattle.dss_frame.specs.Segments.{payloadOf, endOf}
 use Rattle.dss_frame.specs.Reading.{Frame}
 
 -- "The answer counts segments: one, plus each continuation or absorbed segment": the segments of the definition's list
-abbrev pub recordOf : List ℕ → ℕ → Frame → DssFrame
-recordOf s at f =
-    record { header = f .head; «payload_at» = at; «payload_len» = length (payloadOf s (f .segments)); segments = length (f .segments) }
+-- W-201: and where the frame read at p stood, "the first byte and the byte after the last one in the run, absorbed segments included"
+abbrev pub recordOf : List ℕ → ℕ → ℕ → Frame → DssFrame
+recordOf s p a f =
+    record { header = f .head; «payload_at» = a; «payload_len» = length (payloadOf s (f .segments)); segments = length (f .segments); at = p; end = endOf p (f .segments) }
 
 -- "payloads end to end in a lent room"
 unfoldable pub payloadsOf : List ℕ → List Frame → List ℕ
@@ -17,8 +18,8 @@ unfolding payloadOf
 payloadsOf s [] = []
 payloadsOf s (f ∷ fs) = payloadOf s (f .segments) ++ payloadsOf s fs
 
--- "Frames land in a lent row of frame records": the first one's payload lies at `at`
-unfoldable pub recordsOf : List ℕ → ℕ → List Frame → List DssFrame
-unfolding payloadOf
-recordsOf s at [] = []
-recordsOf s at (f ∷ fs) = recordOf s at f ∷ recordsOf s (at + length (payloadOf s (f .segments))) fs
+-- "Frames land in a lent row of frame records": the first one stands at p, and its payload lies at a
+unfoldable pub recordsOf : List ℕ → ℕ → ℕ → List Frame → List DssFrame
+unfolding payloadOf endOf
+recordsOf s p a [] = []
+recordsOf s p a (f ∷ fs) = recordOf s p a f ∷ recordsOf s (endOf p (f .segments)) (a + length (payloadOf s (f .segments))) fs

@@ -7,10 +7,13 @@ pub enum Rules {
     Salvage,
 }
 
-// A frame's record: its head, where its payload lies in the lent room, and of how many segments it was made.
+// A frame's record: its head, where its payload lies in the lent room, of how many segments it was made, and where it stood in
+// the run: its first byte and the byte after its last, absorbed segments included.
 pub struct DssFrame {
     pub header: DssHeader,
     pub payload_at: usize,
     pub payload_len: usize,
     pub segments: usize,
+    pub at: usize,
+    pub end: usize,
 }

@@ -5,6 +5,7 @@ pub mod Ends
 pub mod Looks
 pub mod WalkCases
 pub mod Bounds
+pub mod Linked
 pub mod AllFrames
 pub mod Salvaging
 pub mod Framed

@@ -10,13 +10,16 @@ use Rattle.dss_head.specs.declared.Chunk.{Chunk}
 use Rattle.dss_head.specs.declared.DssType.{DssType}
 use Rattle.dss_head.specs.declared.HeadFound.{HeadFound}
 use Rattle.dss_frame.specs.Rules.{chunkUnder}
+use Rattle.dss_frame.specs.declared.DssFrame.{DssFrame}
 use Rattle.dss_frame.specs.declared.Rules.{Rules}
 use Rattle.dss_frame.specs.Reading.{look}
 use Rattle.dss_measure.specs.declared.Extent.{Extent}
+use Rattle.dss_measure.specs.declared.FrameMeasure.{FrameMeasure}
 use Rattle.dss_measure.specs.declared.Look.{Look}
 use Rattle.dss_measure.specs.declared.Measured.{Measured}
 use Rattle.dss_measure.specs.declared.Walked.{Walked}
 use Rattle.dss_measure.specs.Measure.{walkedAt, lookedOf, measuredAt, extentOf}
+use Rattle.dss_measure.proofs.FrameMeasure.record.Reads as frame-record
 use Rattle.dss_measure.proofs.head_at.Reads as head-at
 use Rattle.dss_measure.proofs.chunk_under.Reads as chunk-under
 use Rattle.dss_measure.proofs.walk_frame.Reads as walk-frame
@@ -75,3 +78,7 @@ measure-some κs rules run at = refl
 pub measure-extent-some : (κs : Lfts 1) (rules : Rules) (run : RefT (List ℕ)) (at : ℕ)
     → measure-extent.Post κs (rules, (run, (at, tt))) (extentOf (measuredAt rules (run .now) at)) (rules, (run, (at, tt)))
 measure-extent-some κs rules run at = refl
+
+pub record-one : (κs : Lfts 0) (m : FrameMeasure) (at a : ℕ) (r r′ : DssFrame)
+    → frame-record.Post κs (m, (at, (a, tt))) r (m, (at, (a, tt))) → frame-record.Post κs (m, (at, (a, tt))) r′ (m, (at, (a, tt))) → r ≡ r′
+record-one κs m at a r r′ p q = p ∙ sym q

@@ -7,6 +7,7 @@ use lib.ListN.{length, getD}
 use Rattle.wire.specs.Bytes.{and}
 use Rattle.dss_frame.specs.Segments.{Walk, whole, short, dead, payloadOf, endOf, frameWalk}
 use Rattle.dss_frame.specs.Reading.{Look, finished, absorbs, refuses, Frame, Read, frame, refused, readAt}
+use Rattle.dss_frame.specs.declared.DssFrame.{DssFrame}
 use Rattle.dss_frame.specs.declared.Rules.{Rules}
 use Rattle.dss_measure.specs.declared.FrameMeasure.{FrameMeasure}
 use Rattle.dss_measure.specs.declared.Measured.{Measured}
@@ -70,6 +71,11 @@ measuredOf s p (refused r) = NotMeasured r
 unfoldable pub measuredAt : Rules → List ℕ → ℕ → Measured
 unfolding payloadOf endOf readAt
 measuredAt rules s p = measuredOf s p (readAt rules s p)
+
+-- the record of a measured frame that stands at p, its payload at a of the room
+abbrev pub measuredRecord : ℕ → ℕ → FrameMeasure → DssFrame
+measuredRecord p a m =
+    record { header = m .header; «payload_at» = a; «payload_len» = m .«payload_len»; segments = m .segments; at = p; end = m .end }
 
 -- ---- the frame's extent
 

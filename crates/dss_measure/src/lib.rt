@@ -11,9 +11,10 @@ ghost use Rattle.dss_head.specs.Heads.{headAt};
 ghost use Rattle.dss_frame.specs.Rules.{chunkUnder};
 ghost use Rattle.dss_frame.specs.Segments.{first, continuations};
 ghost use Rattle.dss_frame.specs.Reading.{look, withChained, absorb};
-ghost use Rattle.dss_measure.specs.Measure.{measuredAt, walkedOf, walkedAt, adds, lookedOf, measuredOf, extentOf};
+ghost use Rattle.dss_measure.specs.Measure.{measuredAt, walkedOf, walkedAt, adds, lookedOf, measuredOf, measuredRecord, extentOf};
 use answer::Refusal;
 use answer::Refused;
+use dss_frame::DssFrame;
 use dss_frame::Rules;
 use dss_head::Chunk;
 use dss_head::DSS_HEADER_LEN;
@@ -38,6 +39,23 @@ pub struct FrameMeasure {
     pub payload_len: usize,
     pub segments: usize,
     pub end: usize,
+}
+
+impl FrameMeasure {
+    // The record of the frame that was measured at a place, its payload at a place of the room.
+    pub fn record(self, at: usize, payload_at: usize) -> DssFrame
+        ensures { λ r. ⌜ r ≡ measuredRecord at «payload_at» self ⌝ }
+    {
+        let header = self.header;
+        DssFrame {
+            header,
+            payload_at,
+            payload_len: self.payload_len,
+            segments: self.segments,
+            at,
+            end: self.end,
+        }
+    }
 }
 
 // What measuring comes to: every refusal but 9.

@@ -45,18 +45,20 @@ two = (0x00 ∷ 0x0A ∷ 0xD0 ∷ 0x01 ∷ 0x00 ∷ 0x01 ∷ 0x00 ∷ 0x04 ∷ 0
 
 -- ---- records
 
-frame : ℕ → DssType → Bool → ℕ → ℕ → ℕ → ℕ → DssFrame
-frame l t c id at n k =
+frame : ℕ → DssType → Bool → ℕ → ℕ → ℕ → ℕ → ℕ → ℕ → DssFrame
+frame l t c id a n k p e =
     record {
       header = record { length = l; «dss_type» = t; flags = record { chained = c; «continue_on_error» = false; «same_correlation» = false }; «correlation_id» = id };
-      «payload_at» = at;
+      «payload_at» = a;
       «payload_len» = n;
       segments = k;
+      at = p;
+      end = e;
     }
 
 -- one that stands in a row
 blank : DssFrame
-blank = frame 0 Communication true 9 9 9 9
+blank = frame 0 Communication true 9 9 9 9 9 9
 
 -- the frame's end: a length below six as it is; one that isn't whole; a position beyond the run
 ends : (frameEnd p2 0 ≡ End 6)
@@ -72,7 +74,7 @@ ends = (refl, refl, refl, refl, refl, refl)
 next : List ℕ → ℕ → ℕ → FrameRead
 next s p size = given s p size (readAt Reader s p)
 
-frames : (next p9 0 3 ≡ Gives (frame 7 Object true 1 0 2 2) (standsAt 14))
+frames : (next p9 0 3 ≡ Gives (frame 7 Object true 1 0 2 2 0 14) (standsAt 14))
     × (roomRead p9 (replicate 3 9) (readAt Reader p9 0) ≡ 0xAA ∷ 0xBB ∷ 9 ∷ [])
     × (next p9 0 1 ≡ NotRead (record { why = NoRoom 2 0; place = 0 }) (standsAt 0))
     × (roomRead p9 (9 ∷ []) (readAt Reader p9 0) ≡ 9 ∷ [])
@@ -92,11 +94,11 @@ both : (all two 0 4 2 ≡ Frames 2 4 (standsAt 16))
     × (all two 10 0 1 ≡ Frames 1 0 (standsAt 16))
     × (all two 16 0 0 ≡ Frames 0 0 (standsAt 16))
     × (roomAll two (replicate 5 9) 3 (allFrames two 0) ≡ 0x00 ∷ 0x04 ∷ 0x20 ∷ 0x0D ∷ 9 ∷ [])
-    × (rowAll two 5 (blank ∷ blank ∷ blank ∷ []) (allFrames two 0) ≡ frame 10 Request false 1 0 4 1 ∷ frame 6 Reply false 7 4 0 1 ∷ blank ∷ [])
+    × (rowAll two 0 5 (blank ∷ blank ∷ blank ∷ []) (allFrames two 0) ≡ frame 10 Request false 1 0 4 1 0 10 ∷ frame 6 Reply false 7 4 0 1 10 16 ∷ blank ∷ [])
     × (all two 0 4 1 ≡ NoneRead (record { why = NoRoom 4 2; place = 0 }) (standsAt 0))
     × (all two 0 3 2 ≡ NoneRead (record { why = NoRoom 4 2; place = 0 }) (standsAt 0))
     × (roomAll two (replicate 5 9) 1 (allFrames two 0) ≡ replicate 5 9)
-    × (rowAll two 3 (blank ∷ blank ∷ []) (allFrames two 0) ≡ blank ∷ blank ∷ [])
+    × (rowAll two 0 3 (blank ∷ blank ∷ []) (allFrames two 0) ≡ blank ∷ blank ∷ [])
     × (all (two ++ replicate 6 0) 0 0 0 ≡ NoneRead (record { why = InvalidMagic 0; place = 16 }) (standsAt 16))
     × (all two 17 0 0 ≡ NoneRead (record { why = OutOfBounds 17 16; place = 17 }) (standsAt 17))
 unfolding p2 two all frame blank readAt allFrames payloadOf payloadsOf recordsOf endOf splice

@@ -116,5 +116,5 @@ module _ (s : List ℕ) (p : ℕ) (room : List ℕ) (row : List DssFrame) where
   pub read-all-frames-one : (r r′ : FramesRead) (l l′ : List ℕ) (k k′ : List DssFrame) → ReadAllFrames s p room row r l k → ReadAllFrames s p room row r′ l′ k′ → (r ≡ r′) × (l ≡ l′) × (k ≡ k′)
   read-all-frames-one r r′ l l′ k k′ p q = (p .answers ∙ sym (q .answers), p .room-is ∙ sym (q .room-is), p .row-is ∙ sym (q .row-is))
 
-  pub read-all-frames-some : ReadAllFrames s p room row (givenAll s p (length room) (length row) (allFrames s p)) (roomAll s room (length row) (allFrames s p)) (rowAll s (length room) row (allFrames s p))
+  pub read-all-frames-some : ReadAllFrames s p room row (givenAll s p (length room) (length row) (allFrames s p)) (roomAll s room (length row) (allFrames s p)) (rowAll s p (length room) row (allFrames s p))
   read-all-frames-some = record { answers = refl; room-is = refl; row-is = refl }

@@ -135,7 +135,7 @@ filled s p row count = splice row 0 (recordsFrom (length row) s (startsAt p coun
 filled-none : (s : List ℕ) (p : ℕ) (row : List DssFrame) → filled s p row 0 ≡ row
 filled-none s p row = ap (λ (l : List DssFrame). splice row 0 l) (records-none (length row) s (startsAt p 0) refl) ∙ splice-nothing row
 
-filled-is : (s : List ℕ) (p size : ℕ) (row : List DssFrame) (a : AllRead) → allFrames s p ≡ a → filled s p row (recordsIn (givenAll s p size (length row) a)) ≡ rowAll s size row a
+filled-is : (s : List ℕ) (p size : ℕ) (row : List DssFrame) (a : AllRead) → allFrames s p ≡ a → filled s p row (recordsIn (givenAll s p size (length row) a)) ≡ rowAll s p size row a
 filled-is s p size row (refusedAll r) e = filled-none s p row
 filled-is s p size row (frames fs q) e =
     by (framesFit s fs size (length row))

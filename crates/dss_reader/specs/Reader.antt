@@ -52,7 +52,7 @@ isEnd (NoEnd r) = false
 abbrev pub given : List ℕ → ℕ → ℕ → Read → FrameRead
 given s p size (refused r) = NotRead r (leftAt p r)
 given s p size (frame f) =
-    pick (leb (length (payloadOf s (f .segments))) size) (Gives (recordOf s 0 f) (standsAt (endOf p (f .segments))))
+    pick (leb (length (payloadOf s (f .segments))) size) (Gives (recordOf s p 0 f) (standsAt (endOf p (f .segments))))
     (NotRead (noRoom p (length (payloadOf s (f .segments))) 0) (standsAt p))
 
 pub record NextFrame (s : List ℕ) (p : ℕ) (room : List ℕ) (r : FrameRead) (after : List ℕ) : Type 0 where
@@ -77,11 +77,11 @@ abbrev pub roomAll : List ℕ → List ℕ → ℕ → AllRead → List ℕ
 roomAll s room rows (refusedAll r) = room
 roomAll s room rows (frames fs q) = landed (framesFit s fs (length room) rows) room (payloadsOf s fs)
 
-abbrev pub rowAll : List ℕ → ℕ → List DssFrame → AllRead → List DssFrame
-rowAll s size row (refusedAll r) = row
-rowAll s size row (frames fs q) = landed (framesFit s fs size (length row)) row (recordsOf s 0 fs)
+abbrev pub rowAll : List ℕ → ℕ → ℕ → List DssFrame → AllRead → List DssFrame
+rowAll s p size row (refusedAll r) = row
+rowAll s p size row (frames fs q) = landed (framesFit s fs size (length row)) row (recordsOf s p 0 fs)
 
 pub record ReadAllFrames (s : List ℕ) (p : ℕ) (room : List ℕ) (row : List DssFrame) (r : FramesRead) (roomAfter : List ℕ) (rowAfter : List DssFrame) : Type 0 where
   pub answers : r ≡ givenAll s p (length room) (length row) (allFrames s p)
   pub room-is : roomAfter ≡ roomAll s room (length row) (allFrames s p)
-  pub row-is : rowAfter ≡ rowAll s (length room) row (allFrames s p)
+  pub row-is : rowAfter ≡ rowAll s p (length room) row (allFrames s p)

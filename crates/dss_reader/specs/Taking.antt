@@ -22,7 +22,7 @@ use Rattle.dss_laws.specs.AllFrames.{frames-step, frames-more}
 use Rattle.dss_measure.specs.declared.FrameMeasure.{FrameMeasure}
 use Rattle.dss_measure.specs.declared.Measured.{Measured}
 use Rattle.dss_measure.specs.declared.Measured.the-variants.{Frame as Measures, Refused as NotMeasured}
-use Rattle.dss_measure.specs.Measure.{measureOf, measuredOf, measuredAt}
+use Rattle.dss_measure.specs.Measure.{measureOf, measuredRecord, measuredOf, measuredAt}
 use Rattle.dss_take.specs.Take.{takenOf, roomRead, Takes}
 use Rattle.dss_reader.specs.declared.DssReader.{DssReader}
 use Rattle.dss_reader.specs.declared.FrameRead.{FrameRead}
@@ -33,7 +33,7 @@ use Rattle.dss_reader.specs.Reader.{standsAt, leftAt, given, NextFrame}
 
 -- the reader's answer, of what taking answered at p
 abbrev pub readOf : ℕ → Measured → FrameRead
-readOf p (Measures m) = Gives (record { header = m .header; «payload_at» = 0; «payload_len» = m .«payload_len»; segments = m .segments }) (standsAt (m .end))
+readOf p (Measures m) = Gives (measuredRecord p 0 m) (standsAt (m .end))
 readOf p (NotMeasured r) = NotRead r (leftAt p r)
 
 module _ (s : List ℕ) (p : ℕ) where

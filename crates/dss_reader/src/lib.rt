@@ -271,13 +271,7 @@ impl DssReader {
     {
         match dss_take::take(Rules::Reader, run, self.position, room) {
             Measured::Frame(measure) => {
-                let header = measure.header;
-                let frame = DssFrame {
-                    header,
-                    payload_at: 0,
-                    payload_len: measure.payload_len,
-                    segments: measure.segments,
-                };
+                let frame = measure.record(self.position, 0);
                 let position = measure.end;
                 FrameRead::Frame(frame, DssReader { position })
             }

@@ -18,6 +18,7 @@ use Rattle.dss_frame.specs.declared.Rules.the-variants.{Reader}
 use Rattle.dss_laws.specs.Bounds.{OfFrame, is-frame, is-refused}
 use Rattle.dss_laws.specs.AllFrames.{frames-step}
 use Rattle.dss_measure.specs.declared.FrameMeasure.{FrameMeasure}
+use Rattle.dss_measure.specs.Measure.{measuredRecord}
 use Rattle.dss_row.specs.declared.RowPlace.{RowPlace}
 use Rattle.dss_row.specs.declared.RecordFound.{RecordFound}
 use Rattle.dss_row.specs.declared.RecordFound.the-variants.{One, End}
@@ -39,10 +40,10 @@ module _ (s : List ℕ) (x : RowPlace) where
 
   -- the record of a measure, and the place behind it
   pub record-measured : (m : FrameMeasure) → (x .left ≡ 0 → ⊥) → Measures Reader s (x .at) m
-      → recordAt s x ≡ One (record { header = m .header; «payload_at» = x .«payload_at»; «payload_len» = m .«payload_len»; segments = m .segments }) (record { at = m .end; «payload_at» = x .«payload_at» + m .«payload_len»; left = x .left - 1 })
+      → recordAt s x ≡ One (measuredRecord (x .at) (x .«payload_at») m) (record { at = m .end; «payload_at» = x .«payload_at» + m .«payload_len»; left = x .left - 1 })
   record-measured m h w =
       record-read (frame (w .whole)) h (w .reads)
-      ∙ ap (λ (y : FrameMeasure). One (record { header = y .header; «payload_at» = x .«payload_at»; «payload_len» = y .«payload_len»; segments = y .segments }) (record { at = y .end; «payload_at» = x .«payload_at» + y .«payload_len»; left = x .left - 1 }))
+      ∙ ap (λ (y : FrameMeasure). One (measuredRecord (x .at) (x .«payload_at») y) (record { at = y .end; «payload_at» = x .«payload_at» + y .«payload_len»; left = x .left - 1 }))
       (w .same)
 
 -- a place behind a record lies no further into the room than into the run, if that before it does
@@ -98,7 +99,7 @@ frames-onward s p f fs q e = of-read (readAt Reader s p) refl (sym (frames-step 
 
 -- as many as there are frames: all of them
 pub records-all : (fs : List Frame) (n : ℕ) (s : List ℕ) (p a q : ℕ) → allFrames s p ≡ frames fs q → length fs ≤ n
-    → recordsFrom n s (record { at = p; «payload_at» = a; left = length fs }) ≡ recordsOf s a fs
+    → recordsFrom n s (record { at = p; «payload_at» = a; left = length fs }) ≡ recordsOf s p a fs
 unfolding recordsOf
 records-all [] n s p a q e h = records-none n s (record { at = p; «payload_at» = a; left = 0 }) refl
 records-all (f ∷ fs) zero s p a q e h = absurd (omega arith)
@@ -108,8 +109,8 @@ records-all (f ∷ fs) (suc n) s p a q e h =
     let b : ℕ = a + length (payloadOf s (f .segments)) in
     let k : length (f ∷ fs) - 1 ≡ length fs = omega arith in
     records-step n s x (foundOf s x (frame f)) (sym (record-read s x (frame f) (λ z. omega arith) (w .reads)))
-    ∙ ap (λ (j : ℕ). recordOf s a f ∷ recordsFrom n s (record { at = endOf p (f .segments); «payload_at» = b; left = j })) k
-    ∙ ap (λ (l : List DssFrame). recordOf s a f ∷ l) (records-all fs n s (endOf p (f .segments)) b q (w .onward) (omega arith))
+    ∙ ap (λ (j : ℕ). recordOf s p a f ∷ recordsFrom n s (record { at = endOf p (f .segments); «payload_at» = b; left = j })) k
+    ∙ ap (λ (l : List DssFrame). recordOf s p a f ∷ l) (records-all fs n s (endOf p (f .segments)) b q (w .onward) (omega arith))
 
 -- ---- what a row then holds
 

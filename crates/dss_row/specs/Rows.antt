@@ -17,7 +17,7 @@ use Rattle.dss_row.specs.declared.RecordFound.the-variants.{One, End}
 -- a frame's record, and where the next one is
 abbrev pub foundOf : List ℕ → RowPlace → Read → RecordFound
 foundOf s x (frame f) =
-    One (recordOf s (x .«payload_at») f)
+    One (recordOf s (x .at) (x .«payload_at») f)
     (record { at = endOf (x .at) (f .segments); «payload_at» = x .«payload_at» + length (payloadOf s (f .segments)); left = x .left - 1 })
 foundOf s x (refused r) = End
 

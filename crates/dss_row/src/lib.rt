@@ -35,17 +35,10 @@ pub(crate) fn record_at(run: &[u8], place: RowPlace) -> RecordFound
     match dss_measure::measure(Rules::Reader, run, at) {
         Measured::Refused(_) => RecordFound::End,
         Measured::Frame(measure) => {
-            let header = measure.header;
-            let payload_len = measure.payload_len;
-            let record = DssFrame {
-                header,
-                payload_at,
-                payload_len,
-                segments: measure.segments,
-            };
+            let record = measure.record(at, payload_at);
             let next = RowPlace {
                 at: measure.end,
-                payload_at: payload_at + payload_len,
+                payload_at: payload_at + measure.payload_len,
                 left: left - 1,
             };
             RecordFound::One(record, next)

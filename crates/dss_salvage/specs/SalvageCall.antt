@@ -12,6 +12,7 @@ use Rattle.dss_frame.specs.Records.{recordOf}
 use Rattle.dss_frame.specs.Salvage.{salvaged}
 use Rattle.dss_frame.specs.Salvage as reading
 use Rattle.dss_salvage.specs.declared.SalvageEntry.{SalvageEntry}
+use Rattle.dss_salvage.specs.declared.Entry.{Entry}
 use Rattle.dss_salvage.specs.declared.Entry.the-variants.{Frame, Refused as Refuses}
 use Rattle.dss_salvage.specs.declared.Salvaged.{Salvaged}
 use Rattle.dss_salvage.specs.declared.Salvaged.the-variants.{Done, Refused as NotSalvaged}
@@ -22,9 +23,22 @@ bytesOf s (frame f) = payloadOf s (f .segments)
 bytesOf s (refused r) = []
 
 -- "Entries are listed in order, one record each, a refusal's without payload"
-abbrev pub entryOf : List ℕ → ℕ → Read → SalvageEntry
-entryOf s at (frame f) = record { entry = Frame (recordOf s at f) }
-entryOf s at (refused r) = record { entry = Refuses r }
+-- W-201: with where each stood
+abbrev pub entryAt : List ℕ → ℕ → ℕ → ℕ → Read → SalvageEntry
+entryAt s a p e (frame f) = record { entry = Frame (recordOf s p a f) }
+entryAt s a p e (refused r) = record { entry = Refuses r p e }
+
+abbrev pub entryOf : List ℕ → ℕ → reading.Entry → SalvageEntry
+entryOf s a e = entryAt s a (e .at) (e .end) (e .read)
+
+-- an entry's first byte, and the byte after its last
+abbrev pub startsIn : Entry → ℕ
+startsIn (Frame d) = d .at
+startsIn (Refuses r p e) = p
+
+abbrev pub endsIn : Entry → ℕ
+endsIn (Frame d) = d .end
+endsIn (Refuses r p e) = e
 
 -- payloads end to end
 unfoldable pub salvagedBytes : List ℕ → List reading.Entry → List ℕ
@@ -36,7 +50,7 @@ salvagedBytes s (e ∷ es) = bytesOf s (e .read) ++ salvagedBytes s es
 unfoldable pub salvagedRow : List ℕ → ℕ → List reading.Entry → List SalvageEntry
 unfolding payloadOf
 salvagedRow s at [] = []
-salvagedRow s at (e ∷ es) = entryOf s at (e .read) ∷ salvagedRow s (at + length (bytesOf s (e .read))) es
+salvagedRow s at (e ∷ es) = entryOf s at e ∷ salvagedRow s (at + length (bytesOf s (e .read))) es
 
 -- whether the payloads fit the room and the records the row
 abbrev pub entriesFit : List ℕ → List reading.Entry → ℕ → ℕ → Bool

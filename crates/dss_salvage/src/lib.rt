@@ -11,10 +11,15 @@ use dss_measure::FrameMeasure;
 use dss_measure::Measured;
 use dss_measure::Walked;
 
-// What an entry is: a frame's record, or a refusal, without payload.
+// What an entry is: a frame's record, or a refusal, without payload, and where the refused frame stood: its first byte and the
+// byte after its last, equal where the walk ends at a length below six.
 pub enum Entry {
     Frame(DssFrame),
-    Refused(Refused),
+    Refused {
+        refused: Refused,
+        at: usize,
+        end: usize,
+    },
 }
 
 // One record of the lent row.

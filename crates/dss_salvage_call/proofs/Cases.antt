@@ -39,24 +39,26 @@ five = p2 ++ (0x00 ∷ 0x05 ∷ 0xD0 ∷ 0x02 ∷ 0x00 ∷ 0x07 ∷ []) ++ p2
 
 -- ---- records
 
-framed : ℕ → DssType → Bool → ℕ → ℕ → ℕ → ℕ → SalvageEntry
-framed l t c id at n k =
+framed : ℕ → DssType → Bool → ℕ → ℕ → ℕ → ℕ → ℕ → ℕ → SalvageEntry
+framed l t c id a n k p e =
     record {
       entry =
           Frame (record {
             header = record { length = l; «dss_type» = t; flags = record { chained = c; «continue_on_error» = false; «same_correlation» = false }; «correlation_id» = id };
-            «payload_at» = at;
+            «payload_at» = a;
             «payload_len» = n;
             segments = k;
+            at = p;
+            end = e;
           });
     }
 
-refusal : Refusal → ℕ → SalvageEntry
-refusal why place = record { entry = Refuses (record { why = why; place = place }) }
+refusal : Refusal → ℕ → ℕ → SalvageEntry
+refusal why p e = record { entry = Refuses (record { why = why; place = p }) p e }
 
 -- one that stands in a row
 blank : SalvageEntry
-blank = framed 0 Communication true 9 9 9 9
+blank = framed 0 Communication true 9 9 9 9 9 9
 
 -- ---- what is answered, and what room and row then hold
 
@@ -71,12 +73,12 @@ row-of s size row = landed (entriesFit s (salvaged s .entries) size (length row)
 
 -- P8; a spoilt frame between good ones, and a tail; a length below 6; no bytes; a room or a row too small
 cases : (answer p8 0 2 ≡ Done 2 0 6)
-    × (row-of p8 0 (blank ∷ blank ∷ []) ≡ framed 6 Reply false 7 0 0 1 ∷ refusal (InvalidMagic 0) 6 ∷ [])
+    × (row-of p8 0 (blank ∷ blank ∷ []) ≡ framed 6 Reply false 7 0 0 1 0 6 ∷ refusal (InvalidMagic 0) 6 6 ∷ [])
     × (answer spoilt 2 3 ≡ Done 3 2 28)
     × (room-of spoilt (replicate 3 9) 4 ≡ 0xAA ∷ 0xBB ∷ 9 ∷ [])
-    × (row-of spoilt 3 (replicate 4 blank) ≡ framed 6 Reply false 7 0 0 1 ∷ refusal (InvalidDssType 6) 6 ∷ framed 7 Object true 1 0 2 2 ∷ blank ∷ [])
+    × (row-of spoilt 3 (replicate 4 blank) ≡ framed 6 Reply false 7 0 0 1 0 6 ∷ refusal (InvalidDssType 6) 6 14 ∷ framed 7 Object true 1 0 2 2 14 28 ∷ blank ∷ [])
     × (answer five 0 2 ≡ Done 2 0 6)
-    × (row-of five 0 (blank ∷ blank ∷ []) ≡ framed 6 Reply false 7 0 0 1 ∷ refusal (LengthTooShort 5) 6 ∷ [])
+    × (row-of five 0 (blank ∷ blank ∷ []) ≡ framed 6 Reply false 7 0 0 1 0 6 ∷ refusal (LengthTooShort 5) 6 6 ∷ [])
     × (answer [] 0 0 ≡ Done 0 0 0)
     × (answer spoilt 1 3 ≡ NotSalvaged (record { why = NoRoom 2 3; place = 0 }))
     × (answer spoilt 2 2 ≡ NotSalvaged (record { why = NoRoom 2 3; place = 0 }))

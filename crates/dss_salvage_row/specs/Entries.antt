@@ -3,6 +3,7 @@ use Prim.Native.Nat.{ℕ, zero, suc, _+_, _-_}
 use mathlib.Core.List.{List, [], _∷_}
 use lib.Dec.{eqb}
 use Rattle.wire.specs.Bytes.{pick}
+use Rattle.dss_measure.specs.Measure.{measuredRecord}
 use Rattle.dss_salvage.specs.declared.SalvageEntry.{SalvageEntry}
 use Rattle.dss_salvage.specs.declared.Entry.the-variants.{Frame as Framed, Refused as Refuses}
 use Rattle.dss_salvage.specs.declared.Step.{Step}
@@ -18,10 +19,10 @@ placed p a n = record { at = p; «payload_at» = a; left = n }
 -- a step's record, and where the next one is; behind a refusal that the walk ends at, none is to come
 abbrev pub foundOf : RowPlace → Step → RecordFound
 foundOf x (Frame m) =
-    One (record { entry = Framed (record { header = m .header; «payload_at» = x .«payload_at»; «payload_len» = m .«payload_len»; segments = m .segments }) })
+    One (record { entry = Framed (measuredRecord (x .at) (x .«payload_at») m) })
     (placed (m .end) (x .«payload_at» + m .«payload_len») (x .left - 1))
-foundOf x (Over r q) = One (record { entry = Refuses r }) (placed q (x .«payload_at») (x .left - 1))
-foundOf x (Last r) = One (record { entry = Refuses r }) (placed (x .at) (x .«payload_at») 0)
+foundOf x (Over r q) = One (record { entry = Refuses r (x .at) q }) (placed q (x .«payload_at») (x .left - 1))
+foundOf x (Last r) = One (record { entry = Refuses r (x .at) (x .at) }) (placed (x .at) (x .«payload_at») 0)
 foundOf x Ends = End
 
 -- none where no more are to come

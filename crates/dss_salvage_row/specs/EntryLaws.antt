@@ -17,7 +17,7 @@ use Rattle.dss_measure.specs.declared.FrameMeasure.{FrameMeasure}
 use Rattle.dss_salvage.specs.declared.SalvageEntry.{SalvageEntry}
 use Rattle.dss_salvage.specs.declared.Step.{Step}
 use Rattle.dss_salvage.specs.declared.Step.the-variants.{Frame, Over, Last, End as Ends}
-use Rattle.dss_salvage.specs.SalvageCall.{bytesOf, entryOf, salvagedRow}
+use Rattle.dss_salvage.specs.SalvageCall.{bytesOf, entryAt, salvagedRow}
 use Rattle.dss_salvage.specs.Steps.{stepAt}
 use Rattle.dss_salvage.specs.Stepping.{OnFrame, OnOver, OnLast, on-frame, on-over, on-last, on-end}
 use Rattle.dss_salvage_row.specs.declared.RowPlace.{RowPlace}
@@ -100,12 +100,12 @@ module _ (s : List ℕ) (p a n : ℕ) where
 
   -- one entry, and those behind it
   one-listed : (e : ℕ) (r : Read) (y : Salvaged) (next : RowPlace)
-      → recordAt s (placed p a (suc (length (y .entries)))) ≡ One (entryOf s a r) next
+      → recordAt s (placed p a (suc (length (y .entries)))) ≡ One (entryAt s a p e r) next
       → recordsFrom n s next ≡ salvagedRow s (a + length (bytesOf s r)) (y .entries)
       → Listed (entry p e r y)
   unfolding salvagedRow
   one-listed e r y next i h =
-      records-step n s (placed p a (suc (length (y .entries)))) (One (entryOf s a r) next) (sym i) ∙ ap (λ (l : List SalvageEntry). entryOf s a r ∷ l) h
+      records-step n s (placed p a (suc (length (y .entries)))) (One (entryAt s a p e r) next) (sym i) ∙ ap (λ (l : List SalvageEntry). entryAt s a p e r ∷ l) h
 
   -- where all that follow are listed, wherever they start
   abbrev Onward : Type 0
@@ -124,7 +124,7 @@ module _ (s : List ℕ) (p a n : ℕ) where
       (one-listed q (frame f) (salvagedFrom s q) (placed q b k)
       (record-step s (placed p a (suc k)) (Frame m) (λ x. omega arith) i
       ∙ ap (λ (x : FrameMeasure). foundOf (placed p a (suc k)) (Frame x)) (sym (w .measured .same))
-      ∙ ap (λ (j : ℕ). One (entryOf s a (frame f)) (placed q b j)) z)
+      ∙ ap (λ (j : ℕ). One (entryAt s a p q (frame f)) (placed q b j)) z)
       (go q b (omega arith)))
   by-step (Over r q) i h go =
       let w : OnOver s p r q = on-over s p r q i in
@@ -135,8 +135,8 @@ module _ (s : List ℕ) (p a n : ℕ) where
       listed (entry p q (refused r) (salvagedFrom s q)) (w .onward)
       (one-listed q (refused r) (salvagedFrom s q) (placed q (a + 0) k)
       (record-step s (placed p a (suc k)) (Over r q) (λ x. omega arith) i
-      ∙ ap (λ (j : ℕ). One (entryOf s a (refused r)) (placed q a j)) z
-      ∙ ap (λ (b : ℕ). One (entryOf s a (refused r)) (placed q b k)) y)
+      ∙ ap (λ (j : ℕ). One (entryAt s a p q (refused r)) (placed q a j)) z
+      ∙ ap (λ (b : ℕ). One (entryAt s a p q (refused r)) (placed q b k)) y)
       (go q (a + 0) (omega arith)))
   by-step (Last r) i h go =
       let w : OnLast s p r = on-last s p r i in

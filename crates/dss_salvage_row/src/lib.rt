@@ -4,7 +4,6 @@ ghost use Prim.Native.Nat.{_≤_};
 ghost use lib.ListN.{length};
 ghost use Rattle.wire.specs.Bytes.{splice};
 ghost use Rattle.dss_salvage_row.specs.Entries.{recordAt, startsAt, recordsFrom};
-use dss_frame::DssFrame;
 use dss_salvage::Entry;
 use dss_salvage::SalvageEntry;
 use dss_salvage::Step;
@@ -36,7 +35,11 @@ pub(crate) fn record_at(run: &[u8], place: RowPlace) -> RecordFound
     match dss_salvage::entry_at(run, at) {
         Step::End => RecordFound::End,
         Step::Last(refused) => {
-            let entry = Entry::Refused(refused);
+            let entry = Entry::Refused {
+                refused,
+                at,
+                end: at,
+            };
             let next = RowPlace {
                 at,
                 payload_at,
@@ -45,7 +48,7 @@ pub(crate) fn record_at(run: &[u8], place: RowPlace) -> RecordFound
             RecordFound::One(SalvageEntry { entry }, next)
         }
         Step::Over(refused, end) => {
-            let entry = Entry::Refused(refused);
+            let entry = Entry::Refused { refused, at, end };
             let next = RowPlace {
                 at: end,
                 payload_at,
@@ -54,17 +57,11 @@ pub(crate) fn record_at(run: &[u8], place: RowPlace) -> RecordFound
             RecordFound::One(SalvageEntry { entry }, next)
         }
         Step::Frame(measure) => {
-            let header = measure.header;
-            let payload_len = measure.payload_len;
-            let entry = Entry::Frame(DssFrame {
-                header,
-                payload_at,
-                payload_len,
-                segments: measure.segments,
-            });
+            let frame = measure.record(at, payload_at);
+            let entry = Entry::Frame(frame);
             let next = RowPlace {
                 at: measure.end,
-                payload_at: payload_at + payload_len,
+                payload_at: payload_at + measure.payload_len,
                 left: left - 1,
             };
             RecordFound::One(SalvageEntry { entry }, next)

@@ -35,18 +35,18 @@ answer : List ℕ → ℕ → ℕ → ℕ → List ℕ
 answer s p size rows = framesWords (givenAll s p size rows (allFrames s p))
 
 row-of : List ℕ → ℕ → List ℕ → List ℕ
-row-of s size row = rowWords s size row (allFrames s 0)
+row-of s size row = rowWords s 0 size row (allFrames s 0)
 
 -- two frames, the position behind them; the second one alone; a room and a row too short; a refused head; beyond the run
 cases : (answer run 0 2 2 ≡ 0 ∷ 20 ∷ 2 ∷ 2 ∷ replicate 4 0)
     × (answer run 14 0 1 ≡ 0 ∷ 20 ∷ 1 ∷ 0 ∷ replicate 4 0)
-    × (row-of run 2 (replicate 17 9) ≡ (0 ∷ 0 ∷ 7 ∷ 0x43 ∷ 1 ∷ 2 ∷ 2 ∷ 0 ∷ []) ++ ((0 ∷ 2 ∷ 6 ∷ 0x02 ∷ 7 ∷ 0 ∷ 1 ∷ 0 ∷ []) ++ (9 ∷ [])))
+    × (row-of run 2 (replicate 21 9) ≡ (0 ∷ 0 ∷ 7 ∷ 0x43 ∷ 1 ∷ 2 ∷ 2 ∷ 0 ∷ 0 ∷ 14 ∷ []) ++ ((0 ∷ 2 ∷ 6 ∷ 0x02 ∷ 7 ∷ 0 ∷ 1 ∷ 0 ∷ 14 ∷ 20 ∷ []) ++ (9 ∷ [])))
     × (answer run 0 1 2 ≡ 9 ∷ 0 ∷ 2 ∷ 2 ∷ replicate 4 0)
     × (answer run 0 2 1 ≡ 9 ∷ 0 ∷ 2 ∷ 2 ∷ replicate 4 0)
-    × (row-of run 2 (replicate 15 9) ≡ replicate 15 9)
-    × (row-of run 1 (replicate 16 9) ≡ replicate 16 9)
+    × (row-of run 2 (replicate 19 9) ≡ replicate 19 9)
+    × (row-of run 1 (replicate 20 9) ≡ replicate 20 9)
     × (answer p8 0 9 9 ≡ 2 ∷ 6 ∷ replicate 6 0)
-    × (row-of p8 9 (replicate 16 9) ≡ replicate 16 9)
+    × (row-of p8 9 (replicate 20 9) ≡ replicate 20 9)
     × (answer run 24 9 9 ≡ 10 ∷ 24 ∷ 24 ∷ 23 ∷ replicate 4 0)
 unfolding p2 p9 run p8 answer row-of allFrames payloadOf endOf payloadsOf recordsOf joined splice
 cases = (refl, refl, refl, refl, refl, refl, refl, refl, refl, refl)

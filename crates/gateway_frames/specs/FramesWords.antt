@@ -19,12 +19,12 @@ framesWords (Frames count bytes reader) = 0 ∷ reader .position ∷ count ∷ b
 framesWords (NoneRead r reader) = refusalWords r
 
 -- "Frames land in a lent row of frame records": the records' words at the row's start where all that the call lays down fits
-abbrev pub rowWords : List ℕ → ℕ → List ℕ → AllRead → List ℕ
-rowWords s size row (refusedAll r) = row
-rowWords s size row (frames fs q) = landed (framesFit s fs size (places row)) row (joined recordWords (recordsOf s 0 fs))
+abbrev pub rowWords : List ℕ → ℕ → ℕ → List ℕ → AllRead → List ℕ
+rowWords s p size row (refusedAll r) = row
+rowWords s p size row (frames fs q) = landed (framesFit s fs size (places row)) row (joined recordWords (recordsOf s p 0 fs))
 
 -- what reading all frames from p on answers, and what the lent words, room and row then hold
 pub record ReadsAllFrames (s : List ℕ) (p : ℕ) (room row words : List ℕ) (r : ℕ) (room-after row-after words-after : List ℕ) : Type 0 where
   pub answers : Answered (framesWords (givenAll s p (length room) (places row) (allFrames s p))) words r words-after
   pub room-is : room-after ≡ roomAll s room (places row) (allFrames s p)
-  pub row-is : row-after ≡ rowWords s (length room) row (allFrames s p)
+  pub row-is : row-after ≡ rowWords s p (length room) row (allFrames s p)

@@ -19,7 +19,7 @@ use Rattle.dss_frame.specs.declared.Rules.the-variants.{Reader}
 use Rattle.dss_measure.specs.declared.FrameMeasure.{FrameMeasure}
 use Rattle.dss_measure.specs.declared.Measured.{Measured}
 use Rattle.dss_measure.specs.declared.Measured.the-variants.{Frame as Gives, Refused as NotMeasured}
-use Rattle.dss_measure.specs.Measure.{measuredAt}
+use Rattle.dss_measure.specs.Measure.{measuredRecord, measuredAt}
 use Rattle.dss_take.specs.Take.{Takes}
 use Rattle.dss_row.specs.declared.RowPlace.{RowPlace}
 use Rattle.dss_row.specs.declared.RecordFound.the-variants.{One, End}
@@ -30,8 +30,8 @@ use Rattle.dss_reader.specs.declared.FramesRead.{FramesRead}
 use Rattle.dss_reader.specs.Reader.{framesFit, givenAll}
 use Rattle.dss_reader.specs.Gathered.{recordsIn}
 use Rattle.dss_reader.specs.Taking.{allPayloads, Fits, Taking as PayloadsTaken, taking-start, start-left, taking-more, taking-measured, taking-fewer, taking-never, taking-empty}
-use Rattle.gateway_row.specs.RowWords.{recordWords, places, joined}
-use Rattle.gateway_row.specs.LaidWords.{Laying, laying-start, laying-end, laying-eight, joined-none, joined-more}
+use Rattle.gateway_row.specs.RowWords.{recordWords, recordLen, places, joined}
+use Rattle.gateway_row.specs.LaidWords.{Laying, laying-start, laying-end, partOf, backPart, laying-part, joined-none, joined-more}
 use Rattle.gateway_frames.specs.FramesWords.{rowWords}
 
 abbrev placed : ℕ → ℕ → ℕ → RowPlace
@@ -44,16 +44,12 @@ wordsFrom s p a k = joined recordWords (recordsFrom k s (placed p a k))
 -- while they are laid: k records are left, which fit behind the first n words, and their payloads go into the room no further than
 -- their frames into the run
 pub record Lays (s start aim row : List ℕ) (p a n k : ℕ) : Type 0 where
-  pub fits : n + 8 * k ≤ length row
+  pub fits : n + recordLen * k ≤ length row
   pub low : a ≤ p
   pub laying : Laying start aim row (wordsFrom s p a k) n
 
-pub lays-start : (s row : List ℕ) (p k : ℕ) → 8 * k ≤ length row → Lays s row (splice row 0 (wordsFrom s p 0 k)) row p 0 0 k
+pub lays-start : (s row : List ℕ) (p k : ℕ) → recordLen * k ≤ length row → Lays s row (splice row 0 (wordsFrom s p 0 k)) row p 0 0 k
 lays-start s row p k h = record { fits = omega arith; low = omega arith; laying = laying-start row (wordsFrom s p 0 k) }
-
--- the record of a measure
-abbrev pub measuredRecord : ℕ → FrameMeasure → DssFrame
-measuredRecord a m = record { header = m .header; «payload_at» = a; «payload_len» = m .«payload_len»; segments = m .segments }
 
 module _ (s start aim row : List ℕ) (p a n k : ℕ) (l : Lays s start aim row p a n k) where
   -- none is left
@@ -85,20 +81,20 @@ module _ (s start aim row : List ℕ) (p a n k : ℕ) (l : Lays s start aim row 
     pub lays-there : m .end ≤ length s
     lays-there = w .there
 
-    one-left : wordsFrom s p a k ≡ recordWords (measuredRecord a m) ++ wordsFrom s (m .end) (a + m .«payload_len») (k - 1)
+    one-left : wordsFrom s p a k ≡ recordWords (measuredRecord p a m) ++ wordsFrom s (m .end) (a + m .«payload_len») (k - 1)
     one-left =
         ap (λ (j : ℕ). joined recordWords (recordsFrom j s (placed p a k))) (some h)
         ∙ ap (joined recordWords)
-        (records-step (k - 1) s (placed p a k) (One (measuredRecord a m) (placed (m .end) (a + m .«payload_len») (k - 1)))
+        (records-step (k - 1) s (placed p a k) (One (measuredRecord p a m) (placed (m .end) (a + m .«payload_len») (k - 1)))
         (sym (record-measured s (placed p a k) m (λ z. omega arith) w)))
-        ∙ joined-more recordWords (measuredRecord a m) (recordsFrom (k - 1) s (placed (m .end) (a + m .«payload_len») (k - 1)))
+        ∙ joined-more recordWords (measuredRecord p a m) (recordsFrom (k - 1) s (placed (m .end) (a + m .«payload_len») (k - 1)))
 
     -- one more is laid
-    pub lays-more : (t : List ℕ) → t ≡ laid (tail row n) 0 (recordWords (measuredRecord a m))
-        → Lays s start aim (back row n t) (m .end) (a + m .«payload_len») (n + 8) (k - 1)
+    pub lays-more : (t : List ℕ) → t ≡ laid (partOf row n (n + recordLen)) 0 (recordWords (measuredRecord p a m))
+        → Lays s start aim (backPart row n (n + recordLen) t) (m .end) (a + m .«payload_len») (n + recordLen) (k - 1)
     lays-more t i =
-        let g : Laying start aim (back row n t) (wordsFrom s (m .end) (a + m .«payload_len») (k - 1)) (n + 8) =
-        laying-eight start aim row (wordsFrom s p a k) n (l .laying) (recordWords (measuredRecord a m)) _ t one-left refl (omega (arith, l .fits)) i in
+        let g : Laying start aim (backPart row n (n + recordLen) t) (wordsFrom s (m .end) (a + m .«payload_len») (k - 1)) (n + recordLen) =
+        laying-part start aim row (wordsFrom s p a k) n (l .laying) (n + recordLen) (recordWords (measuredRecord p a m)) _ t one-left refl (omega (arith, l .fits)) i in
         record { fits = omega (arith, l .fits, l .laying .long, g .long); low = lays-low; laying = g }
 
 -- ---- payloads and records
@@ -107,7 +103,7 @@ module _ (s start aim row : List ℕ) (p a n k : ℕ) (l : Lays s start aim row 
 pub record Asks (s : List ℕ) (p count : ℕ) (room row : List ℕ) : Type 0 where
   pub payloads : Fits s p room
   pub counted : length (payloads .read) ≡ count
-  pub records : 8 * count ≤ length row
+  pub records : recordLen * count ≤ length row
 
 -- the room and the row then
 pub record Taken (s : List ℕ) (p count : ℕ) (room row room-after row-after : List ℕ) : Type 0 where
@@ -148,9 +144,9 @@ module _ {s whole start aim room row : List ℕ} {p a n k : ℕ} (w : Taking s w
       pub taking-there : m .end ≤ length s
       taking-there = lays-there s start aim row p a n k (w .records) m h measured
 
-      -- and its record is laid into the row's tail, which comes back as u
-      pub taking-one : (u : List ℕ) → u ≡ laid (tail row n) 0 (recordWords (measuredRecord a m))
-          → Taking s whole start aim (back room a t) (back row n u) (m .end) (a + m .«payload_len») (n + 8) (k - 1)
+      -- and its record is laid into the part of the row that is its own, which comes back as u
+      pub taking-one : (u : List ℕ) → u ≡ laid (partOf row n (n + recordLen)) 0 (recordWords (measuredRecord p a m))
+          → Taking s whole start aim (back room a t) (backPart row n (n + recordLen) u) (m .end) (a + m .«payload_len») (n + recordLen) (k - 1)
       taking-one u j =
           record {
             payloads = taking-more (w .payloads) t m r i e;
@@ -179,7 +175,7 @@ filled-none : (s : List ℕ) (p : ℕ) (row : List ℕ) → filled s p row 0 ≡
 filled-none s p row =
     ap (splice row 0) (ap (joined recordWords) (records-none 0 s (placed p 0 0) refl) ∙ joined-none recordWords) ∙ splice-none row 0
 
-filled-is : (s : List ℕ) (p size : ℕ) (row : List ℕ) (a : AllRead) → allFrames s p ≡ a → filled s p row (recordsIn (givenAll s p size (places row) a)) ≡ rowWords s size row a
+filled-is : (s : List ℕ) (p size : ℕ) (row : List ℕ) (a : AllRead) → allFrames s p ≡ a → filled s p row (recordsIn (givenAll s p size (places row) a)) ≡ rowWords s p size row a
 filled-is s p size row (refusedAll r) e = filled-none s p row
 filled-is s p size row (frames fs q) e =
     by (framesFit s fs size (places row))
@@ -190,10 +186,10 @@ filled-is s p size row (frames fs q) e =
 
 -- what the row holds once the records of the answer are laid into it
 pub row-filled : (s : List ℕ) (p : ℕ) (room row : List ℕ) (r : FramesRead) (row-after : List ℕ) (count : ℕ)
-    → r ≡ givenAll s p (length room) (places row) (allFrames s p) → recordsIn r ≡ count → row-after ≡ filled s p row count → row-after ≡ rowWords s (length room) row (allFrames s p)
+    → r ≡ givenAll s p (length room) (places row) (allFrames s p) → recordsIn r ≡ count → row-after ≡ filled s p row count → row-after ≡ rowWords s p (length room) row (allFrames s p)
 row-filled s p room row r row-after count g c e =
     e ∙ ap (filled s p row) (sym c ∙ ap recordsIn g) ∙ filled-is s p (length room) row (allFrames s p) refl
 
 -- the row that a refusal leaves
-pub row-kept : (s : List ℕ) (p : ℕ) (room row : List ℕ) (r : FramesRead) → r ≡ givenAll s p (length room) (places row) (allFrames s p) → recordsIn r ≡ 0 → row ≡ rowWords s (length room) row (allFrames s p)
+pub row-kept : (s : List ℕ) (p : ℕ) (room row : List ℕ) (r : FramesRead) → r ≡ givenAll s p (length room) (places row) (allFrames s p) → recordsIn r ≡ 0 → row ≡ rowWords s p (length room) row (allFrames s p)
 row-kept s p room row r g c = row-filled s p room row r row 0 g c (sym (filled-none s p row))

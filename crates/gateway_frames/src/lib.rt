@@ -1,18 +1,18 @@
 // All frames at once for C and Rust: document 01, "Reading", `read_all_frames`. Slices, numbers and words go as in the crate
-// gateway, a reader as its position. The row of records is lent as words, eight a record.
+// gateway, a reader as its position. The row of records is lent as words, ten a record.
 ghost use Rattle.gateway_words.specs.Words.{Answered};
 ghost use Rattle.gateway_frames.specs.FramesWords.{framesWords, ReadsAllFrames};
 ghost use Rattle.gateway_frames.specs.LaidRecords.{Asks, Taken};
-use dss_frame::DssFrame;
 use dss_frame::Rules;
 use dss_measure::Measured;
 use dss_reader::FramesRead;
-use gateway_row::put_frame;
+use gateway_row::RECORD_WORDS;
+use gateway_row::put_record;
 use gateway_words::put_refusal;
 use gateway_words::put_words;
 
 // So many frames from a place on, which are all that there are: their payloads end to end in the room, their records in the
-// row, eight words each. Each frame is looked at once for both.
+// row, ten words each. Each frame is looked at once for both.
 pub(crate) fn take_frames(run: &[u8], from: usize, count: usize, room: &mut [u8], row: &mut [u64])
     requires { ⌜ Asks (now run) «from» count (now room) (now row) ⌝ }
     ensures { λ _. ⌜ Taken (now (run .entry)) «from» count (now (room .entry)) (now (row .entry)) (now (room .exit)) (now (row .exit)) ⌝ }
@@ -27,18 +27,12 @@ pub(crate) fn take_frames(run: &[u8], from: usize, count: usize, room: &mut [u8]
                 return;
             }
             Measured::Frame(measure) => {
-                let header = measure.header;
-                let payload_len = measure.payload_len;
-                let record = DssFrame {
-                    header,
-                    payload_at,
-                    payload_len,
-                    segments: measure.segments,
-                };
-                put_frame(&mut row[filled..], payload_at, record);
+                let record = measure.record(at, payload_at);
+                let next = filled + RECORD_WORDS;
+                put_record(&mut row[filled..next], record);
                 at = measure.end;
-                payload_at += payload_len;
-                filled += 8;
+                payload_at += measure.payload_len;
+                filled = next;
                 left -= 1;
             }
         }
@@ -74,7 +68,7 @@ pub extern "C" fn lattrugone_read_all_frames(
 ) -> u8
     ensures { λ r. ⌜ ReadsAllFrames (now (run .entry)) at (now (room .entry)) (now (row .entry)) (now (words .entry)) r (now (room .exit)) (now (row .exit)) (now (words .exit)) ⌝ }
 {
-    let read = dss_reader::measure_frames(run, at, room.len(), row.len() / 8);
+    let read = dss_reader::measure_frames(run, at, room.len(), row.len() / RECORD_WORDS);
     match read {
         FramesRead::Frames {
             count,

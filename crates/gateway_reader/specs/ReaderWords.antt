@@ -19,10 +19,10 @@ abbrev pub endWords : FrameEnd → List ℕ
 endWords (End e) = doneWords e 0 0 0
 endWords (NoEnd r) = refusalWords r
 
--- a frame: 0, the position behind it, length, the format byte, correlation, the payload's length, segments. A refusal's place
--- is the position that it leaves, but 16's: the position stays
+-- a frame: 0, the position behind it, length, the format byte, correlation, the payload's length, segments, and W-201, its first
+-- byte. A refusal's place is the position that it leaves, but 16's: the position stays
 abbrev pub frameWords : FrameRead → List ℕ
-frameWords (Gives f reader) = frameAt (reader .position) f
+frameWords (Gives f reader) = frameAt (reader .position) (f .at) f
 frameWords (NotRead r reader) = refusalWords r
 
 -- what reading the frame at p answers, and what the lent words and the lent room then hold

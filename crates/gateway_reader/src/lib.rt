@@ -29,7 +29,7 @@ pub(crate) fn put_frame(words: &mut [u64], read: FrameRead) -> u8
 {
     match read {
         FrameRead::Frame(frame, reader) => {
-            gateway_row::put_frame(words, reader.position, frame);
+            gateway_row::put_frame(words, reader.position, frame.at, frame);
             0
         }
         FrameRead::Refused(refused, _) => put_refusal(words, refused),
@@ -74,8 +74,8 @@ pub extern "C" fn lattrugone_first_frame_end(run: &[u8], words: &mut [u64]) -> u
 }
 
 // ---- one frame, its payload at the room's first byte. In the place's word the position behind it; the result: length, the
-// format byte, correlation, the payload's length, segments. A refusal's place is the position after it, but 16's, which is that of a
-// length inside the frame: the position stays.
+// format byte, correlation, the payload's length, segments, its first byte. A refusal's place is the position after it, but 16's,
+// which is that of a length inside the frame: the position stays.
 
 #[no_mangle]
 pub extern "C" fn lattrugone_next_frame(

@@ -1,6 +1,7 @@
--- A record can be read back from its words, and a row says its records: cut into eights, it is their words.
-use Prim.Native.Nat.{ℕ, zero, suc, _+_, _*_, _≤_}
+-- A record can be read back from its words, and a row says its records: cut into parts of a record's length, it is their words.
+use Prim.Native.Nat.{ℕ, zero, suc, _+_, _*_, _≤_, _<_}
 use native.Mathlib.Omega.{arith}
+use native.Mathlib.Nat.{zero-mul, suc-mul, add-comm}
 use mathlib.Core.Path.{_≡_, refl, sym, ap, ap₂, _∙_}
 use mathlib.Core.Bool.{true, false}
 use mathlib.Core.List.{List, [], _∷_, _++_, map, append-assoc}
@@ -21,7 +22,7 @@ use Rattle.dss_head.specs.declared.DssHeader.{DssHeader}
 use Rattle.dss_head.specs.declared.TypeFound.the-variants.{Is}
 use Rattle.dss_frame.specs.declared.DssFrame.{DssFrame}
 use Rattle.gateway_words.specs.Words.{refusalWords}
-use Rattle.gateway_row.specs.RowWords.{formatByte, frameAt, recordWords, joined}
+use Rattle.gateway_row.specs.RowWords.{formatByte, frameAt, recordWords, refusedWords, recordLen, joined}
 
 -- ---- a frame
 
@@ -44,6 +45,8 @@ record-back f g e =
       «payload_at» = w 1 i;
       «payload_len» = w 5 i;
       segments = w 6 i;
+      at = w 8 i;
+      end = w 9 i;
     }
 
 -- ---- a refusal
@@ -89,6 +92,10 @@ refusal-back r q e =
     sym (said-back (r .why)) ∙ (λ i. refusalSaid (w 0 i) (w 2 i) (w 3 i) (w 4 i)) ∙ said-back (q .why) in
     λ i. record { why = y i; place = w 1 i }
 
+-- and so of their records: where they stood is the same too
+pub refused-back : (r q : Refused) (a b e g : ℕ) → refusedWords r a e ≡ refusedWords q b g → (r ≡ q) × (a ≡ b) × (e ≡ g)
+refused-back r q a b e g h = (refusal-back r q (ap (take 8) h), ap (λ (l : List ℕ). getD l 8 0) h, ap (λ (l : List ℕ). getD l 9 0) h)
+
 -- a refusal has a number, and a frame's first word is 0
 pub numbered : (y : Refusal) → 1 ≤ numberOf y
 numbered Incomplete = omega arith
@@ -106,80 +113,84 @@ numbered DeadContinuation = omega arith
 numbered UnsoundData = omega arith
 numbered UnreadableSize = omega arith
 
-pub never-both : (f : DssFrame) (place : ℕ) (r : Refused) → frameAt place f ≡ refusalWords r → ⊥
-never-both f place r e =
+pub never-both : (f : DssFrame) (r : Refused) (a e : ℕ) → recordWords f ≡ refusedWords r a e → ⊥
+never-both f r a end e =
     let z : 0 ≡ numberOf (r .why) = ap (λ (l : List ℕ). getD l 0 0) e in
     omega (arith, numbered (r .why))
 
 -- ---- a row
 
--- so many records of eight words each, from a row's start on
-unfoldable pub eights : ℕ → List ℕ → List (List ℕ)
-eights zero row = []
-eights (suc n) row = take 8 row ∷ eights n (drop 8 row)
+-- so many records of so many words each, from a row's start on
+unfoldable pub cut : ℕ → ℕ → List ℕ → List (List ℕ)
+cut width zero row = []
+cut width (suc n) row = take width row ∷ cut width n (drop width row)
 
-module _ {A : Type 0} (words : A → List ℕ) (eight : (x : A) → length (words x) ≡ 8) where
+module _ {A : Type 0} (words : A → List ℕ) (m : ℕ) (wide : (x : A) → length (words x) ≡ m) where
   -- one record's words, and those behind it
-  first-is : (x : A) (xs : List A) (rest : List ℕ) → take 8 (joined words (x ∷ xs) ++ rest) ≡ words x
+  first-is : (x : A) (xs : List A) (rest : List ℕ) → take m (joined words (x ∷ xs) ++ rest) ≡ words x
   unfolding joined
-  first-is x xs rest = ap (take 8) (append-assoc (words x) (joined words xs) rest) ∙ take-at (words x) (joined words xs ++ rest) 8 (eight x)
+  first-is x xs rest = ap (take m) (append-assoc (words x) (joined words xs) rest) ∙ take-at (words x) (joined words xs ++ rest) m (wide x)
 
-  others-are : (x : A) (xs : List A) (rest : List ℕ) → drop 8 (joined words (x ∷ xs) ++ rest) ≡ joined words xs ++ rest
+  others-are : (x : A) (xs : List A) (rest : List ℕ) → drop m (joined words (x ∷ xs) ++ rest) ≡ joined words xs ++ rest
   unfolding joined
-  others-are x xs rest = ap (drop 8) (append-assoc (words x) (joined words xs) rest) ∙ drop-at (words x) (joined words xs ++ rest) 8 (eight x)
+  others-are x xs rest = ap (drop m) (append-assoc (words x) (joined words xs) rest) ∙ drop-at (words x) (joined words xs ++ rest) m (wide x)
 
-  cut : (xs : List A) (rest : List ℕ) → eights (length xs) (joined words xs ++ rest) ≡ map words xs
-  unfolding eights
-  cut [] rest = refl
-  cut (x ∷ xs) rest =
-      ap₂ (λ (w : List ℕ) (ws : List (List ℕ)). w ∷ ws) (first-is x xs rest) (ap (eights (length xs)) (others-are x xs rest) ∙ cut xs rest)
+  cut-is : (xs : List A) (rest : List ℕ) → cut m (length xs) (joined words xs ++ rest) ≡ map words xs
+  unfolding cut
+  cut-is [] rest = refl
+  cut-is (x ∷ xs) rest =
+      ap₂ (λ (w : List ℕ) (ws : List (List ℕ)). w ∷ ws) (first-is x xs rest) (ap (cut m (length xs)) (others-are x xs rest) ∙ cut-is xs rest)
 
-  pub joined-length : (xs : List A) → length (joined words xs) ≡ 8 * length xs
+  pub joined-length : (xs : List A) → length (joined words xs) ≡ length xs * m
   unfolding joined
-  joined-length [] = refl
-  joined-length (x ∷ xs) = omega (arith, length-append (words x) (joined words xs), eight x, joined-length xs)
+  joined-length [] = sym (zero-mul m)
+  joined-length (x ∷ xs) =
+      length-append (words x) (joined words xs) ∙ ap₂ (λ (a b : ℕ). a + b) (wide x) (joined-length xs) ∙ add-comm m (length xs * m) ∙ sym (suc-mul (length xs) m)
 
-  -- a row with records laid into it, cut into eights, is the records' words
-  pub row-says : (row : List ℕ) (xs : List A) → eights (length xs) (splice row 0 (joined words xs)) ≡ map words xs
-  row-says row xs = ap (eights (length xs)) (splice-tail row 0 (joined words xs) (omega arith)) ∙ cut xs (drop (0 + length (joined words xs)) row)
+  -- a row with records laid into it, cut into parts of their length, is the records' words
+  pub row-says : (row : List ℕ) (xs : List A) → cut m (length xs) (splice row 0 (joined words xs)) ≡ map words xs
+  row-says row xs = ap (cut m (length xs)) (splice-tail row 0 (joined words xs) (omega arith)) ∙ cut-is xs (drop (0 + length (joined words xs)) row)
 
   -- and behind them it is as it was
-  pub row-rest : (row : List ℕ) (xs : List A) → drop (8 * length xs) (splice row 0 (joined words xs)) ≡ drop (8 * length xs) row
+  pub row-rest : (row : List ℕ) (xs : List A) → drop (length xs * m) (splice row 0 (joined words xs)) ≡ drop (length xs * m) row
   row-rest row xs =
-      let z : 8 * length xs ≡ 0 + length (joined words xs) = omega (arith, joined-length xs) in
+      let z : length xs * m ≡ 0 + length (joined words xs) = sym (joined-length xs) ∙ omega arith in
       ap (λ (n : ℕ). drop n (splice row 0 (joined words xs))) z ∙ splice-rest row 0 (joined words xs) (omega arith) ∙ ap (λ (n : ℕ). drop n row) (sym z)
 
-  -- where a record can be read back from its words, so can a list of them
-  pub joined-back : ((x y : A) → words x ≡ words y → x ≡ y) → (xs ys : List A) → joined words xs ≡ joined words ys → xs ≡ ys
+  -- where a record has words and can be read back from them, so can a list of them
+  pub joined-back : 0 < m → ((x y : A) → words x ≡ words y → x ≡ y) → (xs ys : List A) → joined words xs ≡ joined words ys → xs ≡ ys
   unfolding joined
-  joined-back back [] [] e = refl
-  joined-back back [] (y ∷ ys) e = absurd (omega (arith, ap length e, length-append (words y) (joined words ys), eight y))
-  joined-back back (x ∷ xs) [] e = absurd (omega (arith, ap length e, length-append (words x) (joined words xs), eight x))
-  joined-back back (x ∷ xs) (y ∷ ys) e =
+  joined-back some back [] [] e = refl
+  joined-back some back [] (y ∷ ys) e = absurd (omega (arith, ap length e, length-append (words y) (joined words ys), wide y))
+  joined-back some back (x ∷ xs) [] e = absurd (omega (arith, ap length e, length-append (words x) (joined words xs), wide x))
+  joined-back some back (x ∷ xs) (y ∷ ys) e =
       ap₂ (λ (z : A) (zs : List A). z ∷ zs)
-      (back x y (sym (take-at (words x) (joined words xs) 8 (eight x)) ∙ ap (take 8) e ∙ take-at (words y) (joined words ys) 8 (eight y)))
-      (joined-back back xs ys (sym (drop-at (words x) (joined words xs) 8 (eight x)) ∙ ap (drop 8) e ∙ drop-at (words y) (joined words ys) 8 (eight y)))
+      (back x y (sym (take-at (words x) (joined words xs) m (wide x)) ∙ ap (take m) e ∙ take-at (words y) (joined words ys) m (wide y)))
+      (joined-back some back xs ys (sym (drop-at (words x) (joined words xs) m (wide x)) ∙ ap (drop m) e ∙ drop-at (words y) (joined words ys) m (wide y)))
 
 -- a row of frames' records says the records, and no others
 pub records-back : (fs gs : List DssFrame) → joined recordWords fs ≡ joined recordWords gs → fs ≡ gs
-records-back fs gs e = joined-back recordWords (λ (f : DssFrame). refl) record-back fs gs e
+records-back fs gs e = joined-back recordWords recordLen (λ (f : DssFrame). refl) (omega arith) record-back fs gs e
 
 -- ---- an example
 
--- a chained reply, its payload of two bytes at byte 3 of the room
+-- a chained reply that stood at byte 20 of the run, its payload of two bytes at byte 3 of the room
 abbrev reply₀ : DssFrame
 reply₀ = record {
   header = record { length = 8; «dss_type» = Reply; flags = record { chained = true; «continue_on_error» = false; «same_correlation» = false }; «correlation_id» = 7 };
   «payload_at» = 3;
   «payload_len» = 2;
   segments = 1;
+  at = 20;
+  end = 28;
 }
 
--- its words, twice in a row of seventeen; what they say; and a refusal's words beside them
-example : (eights 2 (splice (replicate 17 9) 0 (joined recordWords (reply₀ ∷ reply₀ ∷ []))) ≡ (0 ∷ 3 ∷ 8 ∷ 0x42 ∷ 7 ∷ 2 ∷ 1 ∷ 0 ∷ []) ∷ (0 ∷ 3 ∷ 8 ∷ 0x42 ∷ 7 ∷ 2 ∷ 1 ∷ 0 ∷ []) ∷ [])
+-- its words, twice in a row of twenty-one; what they say; and the words of a refusal and of its record beside them
+example : (cut recordLen 2 (splice (replicate 21 9) 0 (joined recordWords (reply₀ ∷ reply₀ ∷ []))) ≡ (0 ∷ 3 ∷ 8 ∷ 0x42 ∷ 7 ∷ 2 ∷ 1 ∷ 0 ∷ 20 ∷ 28 ∷ []) ∷ (0 ∷ 3 ∷ 8 ∷ 0x42 ∷ 7 ∷ 2 ∷ 1 ∷ 0 ∷ 20 ∷ 28 ∷ []) ∷ [])
     × (typeAt 0x42 0 ≡ Is Reply)
     × (flagsOf 0x42 ≡ reply₀ .header .flags)
     × (refusalWords (record { why = InlineTooShort 3 0x2412; place = 9 }) ≡ 5 ∷ 9 ∷ 3 ∷ 4 ∷ 0x2412 ∷ 0 ∷ 0 ∷ 0 ∷ [])
     × (refusalSaid 5 3 4 0x2412 ≡ InlineTooShort 3 0x2412)
-unfolding eights joined splice
-example = (refl, refl, refl, refl, refl)
+    × (refusedWords (record { why = InvalidMagic 0; place = 6 }) 6 20 ≡ 2 ∷ 6 ∷ 0 ∷ 0 ∷ 0 ∷ 0 ∷ 0 ∷ 0 ∷ 6 ∷ 20 ∷ [])
+unfolding cut joined splice
+example = (refl, refl, refl, refl, refl, refl)

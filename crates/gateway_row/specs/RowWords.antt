@@ -1,18 +1,21 @@
--- How a frame, and a row of records, go to a caller in C or Rust: eight words a record, one record behind the other.
+-- How a frame, and a row of records, go to a caller in C or Rust: a frame in an answer's eight words, a record of a row in ten, one
+-- record behind the other.
 use Prim.Native.Nat.{ℕ, _+_, _/_}
 use mathlib.Core.List.{List, [], _∷_, _++_}
 use lib.ListN.{length}
+use Rattle.answer.specs.declared.Refused.{Refused}
 use Rattle.dss_head.specs.Heads.{typeByte, flagsByte}
 use Rattle.dss_head.specs.declared.DssHeader.{DssHeader}
 use Rattle.dss_frame.specs.declared.DssFrame.{DssFrame}
+use Rattle.gateway_words.specs.Words.{refusalWords}
 
 -- a head's format byte: the type's byte and the flags'
 abbrev pub formatByte : DssHeader → ℕ
 formatByte h = typeByte (h .«dss_type») + flagsByte (h .flags)
 
--- a frame: 0, a place, length, the format byte, correlation, the payload's length, segments, 0
-abbrev pub frameAt : ℕ → DssFrame → List ℕ
-frameAt place f =
+-- a frame: 0, a place, length, the format byte, correlation, the payload's length, segments, and a last number
+abbrev pub frameAt : ℕ → ℕ → DssFrame → List ℕ
+frameAt place last f =
     0
     ∷ place
     ∷ f .header .length
@@ -20,16 +23,27 @@ frameAt place f =
     ∷ f .header .«correlation_id»
     ∷ f .«payload_len»
     ∷ f .segments
-    ∷ 0
+    ∷ last
     ∷ []
 
--- a frame's record in a row: the place is its payload's in the room
-abbrev pub recordWords : DssFrame → List ℕ
-recordWords f = frameAt (f .«payload_at») f
+-- W-201, "the first byte and the byte after the last one in the run": the two words that stand behind a record's eight
+abbrev pub stretch : ℕ → ℕ → List ℕ
+stretch first end = first ∷ end ∷ []
 
--- how many records of eight words a row has place for
+-- a frame's record in a row: the place is its payload's in the room, and the last of the eight is 0
+abbrev pub recordWords : DssFrame → List ℕ
+recordWords f = frameAt (f .«payload_at») 0 f ++ stretch (f .at) (f .end)
+
+-- "salvage entries that are refusals gain the same two"
+abbrev pub refusedWords : Refused → ℕ → ℕ → List ℕ
+refusedWords r first end = refusalWords r ++ stretch first end
+
+-- how many words a row's record has, and how many records a row has place for
+abbrev pub recordLen : ℕ
+recordLen = 10
+
 abbrev pub places : List ℕ → ℕ
-places row = length row / 8
+places row = length row / recordLen
 
 -- the words of all records of a list, one record behind the other
 unfoldable pub joined : {A : Type 0} → (A → List ℕ) → List A → List ℕ

@@ -1,14 +1,19 @@
-// How a frame goes to C and Rust: in eight words. A row of records is lent as words, eight a record, one behind the other. The
+// How a frame goes to C and Rust: in eight words. A row of records is lent as words, ten a record, one behind the other. The
 // crates that export the port's functions call this.
 ghost use mathlib.Core.Path.{_≡_};
 ghost use Rattle.wire.specs.Bytes.{laid};
-ghost use Rattle.gateway_row.specs.RowWords.{frameAt};
+ghost use Rattle.gateway_row.specs.RowWords.{frameAt, stretch, recordWords, refusedWords};
+use answer::Refused;
 use dss_frame::DssFrame;
+use gateway_words::put_refusal;
 use gateway_words::put_words;
 
-// A frame's eight words, with a place in the second one, at the start, where there are eight.
-pub fn put_frame(words: &mut [u64], place: usize, frame: DssFrame)
-    ensures { λ _. ⌜ now (words .exit) ≡ laid (now (words .entry)) 0 (frameAt place frame) ⌝ }
+// How many words a row's record has.
+pub const RECORD_WORDS: usize = 10;
+
+// A frame's eight words, with a place in the second one and a number in the last, at the start, where there are eight.
+pub fn put_frame(words: &mut [u64], place: usize, last: usize, frame: DssFrame)
+    ensures { λ _. ⌜ now (words .exit) ≡ laid (now (words .entry)) 0 (frameAt place last frame) ⌝ }
 {
     let head = frame.header;
     let dss_type = head.dss_type;
@@ -25,6 +30,39 @@ pub fn put_frame(words: &mut [u64], place: usize, frame: DssFrame)
         head.correlation_id as u64,
         frame.payload_len as u64,
         frame.segments as u64,
-        0,
+        last as u64,
     );
+}
+
+// Where a record's frame stood: two words behind its eight, where there are ten.
+pub(crate) fn put_stretch(words: &mut [u64], first: usize, end: usize)
+    ensures { λ _. ⌜ now (words .exit) ≡ laid (now (words .entry)) 8 (stretch first end) ⌝ }
+{
+    if words.len() < RECORD_WORDS {
+        return;
+    }
+    words[8] = first as u64;
+    words[9] = end as u64;
+}
+
+// A frame's record in a row, at the start, where there are ten words.
+pub fn put_record(words: &mut [u64], frame: DssFrame)
+    ensures { λ _. ⌜ now (words .exit) ≡ laid (now (words .entry)) 0 (recordWords frame) ⌝ }
+{
+    if words.len() < RECORD_WORDS {
+        return;
+    }
+    put_frame(words, frame.payload_at, 0, frame);
+    put_stretch(words, frame.at, frame.end);
+}
+
+// The record of a refusal, and of where the refused frame stood, at the start, where there are ten words.
+pub fn put_refused(words: &mut [u64], refused: Refused, first: usize, end: usize)
+    ensures { λ _. ⌜ now (words .exit) ≡ laid (now (words .entry)) 0 (refusedWords refused first end) ⌝ }
+{
+    if words.len() < RECORD_WORDS {
+        return;
+    }
+    put_refusal(words, refused);
+    put_stretch(words, first, end);
 }

@@ -37,13 +37,13 @@ row-of s size row = landed (entriesFit s (salvaged s .entries) size (places row)
 
 -- P8; a spoilt frame between good ones, and a tail; no bytes; a room or a row too short
 cases : (answer p8 0 2 ≡ 0 ∷ 0 ∷ 2 ∷ 0 ∷ 6 ∷ replicate 3 0)
-    × (row-of p8 0 (replicate 16 9) ≡ (0 ∷ 0 ∷ 6 ∷ 0x02 ∷ 7 ∷ 0 ∷ 1 ∷ 0 ∷ []) ++ (2 ∷ 6 ∷ replicate 6 0))
+    × (row-of p8 0 (replicate 20 9) ≡ (0 ∷ 0 ∷ 6 ∷ 0x02 ∷ 7 ∷ 0 ∷ 1 ∷ 0 ∷ 0 ∷ 6 ∷ []) ++ (2 ∷ 6 ∷ 0 ∷ 0 ∷ 0 ∷ 0 ∷ 0 ∷ 0 ∷ 6 ∷ 6 ∷ []))
     × (answer spoilt 2 3 ≡ 0 ∷ 0 ∷ 3 ∷ 2 ∷ 28 ∷ replicate 3 0)
-    × (row-of spoilt 2 (replicate 25 9) ≡ (0 ∷ 0 ∷ 7 ∷ 0x43 ∷ 1 ∷ 2 ∷ 2 ∷ 0 ∷ []) ++ ((3 ∷ 14 ∷ 6 ∷ replicate 5 0) ++ ((0 ∷ 2 ∷ 6 ∷ 0x02 ∷ 7 ∷ 0 ∷ 1 ∷ 0 ∷ []) ++ (9 ∷ []))))
+    × (row-of spoilt 2 (replicate 31 9) ≡ (0 ∷ 0 ∷ 7 ∷ 0x43 ∷ 1 ∷ 2 ∷ 2 ∷ 0 ∷ 0 ∷ 14 ∷ []) ++ ((3 ∷ 14 ∷ 6 ∷ 0 ∷ 0 ∷ 0 ∷ 0 ∷ 0 ∷ 14 ∷ 22 ∷ []) ++ ((0 ∷ 2 ∷ 6 ∷ 0x02 ∷ 7 ∷ 0 ∷ 1 ∷ 0 ∷ 22 ∷ 28 ∷ []) ++ (9 ∷ []))))
     × (answer [] 0 0 ≡ replicate 8 0)
     × (answer spoilt 1 3 ≡ 9 ∷ 0 ∷ 2 ∷ 3 ∷ replicate 4 0)
     × (answer spoilt 2 2 ≡ 9 ∷ 0 ∷ 2 ∷ 3 ∷ replicate 4 0)
-    × (row-of spoilt 1 (replicate 24 9) ≡ replicate 24 9)
-    × (row-of spoilt 2 (replicate 23 9) ≡ replicate 23 9)
+    × (row-of spoilt 1 (replicate 30 9) ≡ replicate 30 9)
+    × (row-of spoilt 2 (replicate 29 9) ≡ replicate 29 9)
 unfolding p2 p8 p9 spoilt answer row-of salvaged payloadOf endOf salvagedBytes salvagedRow joined splice
 cases = (refl, refl, refl, refl, refl, refl, refl, refl, refl)

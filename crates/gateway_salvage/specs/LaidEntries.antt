@@ -9,13 +9,12 @@ use borrow.Author.Tests.{leb-true}
 use Rattle.wire.specs.Bytes.{splice, laid, landed}
 use Rattle.wire.specs.Laws.{by, pick-yes, pick-no, and-split}
 use Rattle.wire.specs.Splice.{splice-none}
-use Rattle.wire.specs.Lent.{tail, back}
 use Rattle.answer.specs.declared.Refused.{Refused}
 use Rattle.dss_frame.specs.Salvage.{salvaged}
 use Rattle.dss_frame.specs.Salvage as reading
-use Rattle.dss_frame.specs.declared.DssFrame.{DssFrame}
 use Rattle.dss_laws.specs.Salvaging.{salvaged-from}
 use Rattle.dss_measure.specs.declared.FrameMeasure.{FrameMeasure}
+use Rattle.dss_measure.specs.Measure.{measuredRecord}
 use Rattle.dss_salvage.specs.declared.Entry.the-variants.{Frame as Framed, Refused as Refuses}
 use Rattle.dss_salvage.specs.declared.SalvageEntry.{SalvageEntry}
 use Rattle.dss_salvage.specs.declared.Salvaged.{Salvaged}
@@ -29,9 +28,8 @@ use Rattle.dss_salvage_row.specs.declared.RecordFound.the-variants.{One, End}
 use Rattle.dss_salvage_row.specs.Entries.{placed, foundOf, recordsFrom}
 use Rattle.dss_salvage_row.specs.EntryLaws.{record-step, records-step, records-none, records-all}
 use Rattle.dss_salvage_call.specs.Gathered.{Gathers, entriesIn}
-use Rattle.gateway_words.specs.Words.{refusalWords}
-use Rattle.gateway_row.specs.RowWords.{recordWords, places, joined}
-use Rattle.gateway_row.specs.LaidWords.{Laying, laying-start, laying-end, laying-eight, joined-none, joined-more}
+use Rattle.gateway_row.specs.RowWords.{recordWords, refusedWords, recordLen, places, joined}
+use Rattle.gateway_row.specs.LaidWords.{Laying, laying-start, laying-end, partOf, backPart, laying-part, joined-none, joined-more}
 use Rattle.gateway_salvage.specs.SalvageWords.{entryWords}
 
 -- the words of the k entries from p on, the first payload at a
@@ -41,19 +39,15 @@ wordsFrom s p a k = joined entryWords (recordsFrom k s (placed p a k))
 -- while they are laid: k entries are left, which fit behind the first n words, and their payloads go into the room no further than
 -- their frames into the run
 pub record Lays (s start aim row : List ℕ) (p a n k : ℕ) : Type 0 where
-  pub fits : n + 8 * k ≤ length row
+  pub fits : n + recordLen * k ≤ length row
   pub low : a ≤ p
   pub laying : Laying start aim row (wordsFrom s p a k) n
 
-pub lays-start : (s row : List ℕ) (k : ℕ) → 8 * k ≤ length row → Lays s row (splice row 0 (wordsFrom s 0 0 k)) row 0 0 0 k
+pub lays-start : (s row : List ℕ) (k : ℕ) → recordLen * k ≤ length row → Lays s row (splice row 0 (wordsFrom s 0 0 k)) row 0 0 0 k
 lays-start s row k h = record { fits = omega arith; low = omega arith; laying = laying-start row (wordsFrom s 0 0 k) }
 
--- the record of a measure
-abbrev pub measuredRecord : ℕ → FrameMeasure → DssFrame
-measuredRecord a m = record { header = m .header; «payload_at» = a; «payload_len» = m .«payload_len»; segments = m .segments }
-
-abbrev refusing : Refused → SalvageEntry
-refusing r = record { entry = Refuses r }
+abbrev refusing : Refused → ℕ → ℕ → SalvageEntry
+refusing r p e = record { entry = Refuses r p e }
 
 module _ (s start aim row : List ℕ) (p a n k : ℕ) (l : Lays s start aim row p a n k) where
   -- none is left
@@ -83,15 +77,15 @@ module _ (s start aim row : List ℕ) (p a n k : ℕ) (l : Lays s start aim row 
         ∙ ap (joined entryWords) (records-step (k - 1) s (placed p a k) (One x next) (i ∙ sym (record-step s (placed p a k) t (λ z. omega arith) e)))
         ∙ joined-more entryWords x (recordsFrom (k - 1) s next)
 
-    -- its eight words are laid
+    -- its words are laid
     abbrev Laid : List ℕ → List ℕ → Type 0
-    Laid t left = Laying start aim (back row n t) left (n + 8)
+    Laid t left = Laying start aim (backPart row n (n + recordLen) t) left (n + recordLen)
 
-    one-laid : (x : SalvageEntry) (left t : List ℕ) → wordsFrom s p a k ≡ entryWords x ++ left → length (entryWords x) ≡ 8 → t ≡ laid (tail row n) 0 (entryWords x) → Laid t left
-    one-laid x left t e w i = laying-eight start aim row (wordsFrom s p a k) n (l .laying) (entryWords x) left t e w (omega (arith, l .fits)) i
+    one-laid : (x : SalvageEntry) (left t : List ℕ) → wordsFrom s p a k ≡ entryWords x ++ left → length (entryWords x) ≡ recordLen → t ≡ laid (partOf row n (n + recordLen)) 0 (entryWords x) → Laid t left
+    one-laid x left t e w i = laying-part start aim row (wordsFrom s p a k) n (l .laying) (n + recordLen) (entryWords x) left t e (ap (λ (j : ℕ). n + j) w) (omega (arith, l .fits)) i
 
     -- so the others fit
-    others : (q b : ℕ) (t : List ℕ) → b ≤ q → Laid t (wordsFrom s q b (k - 1)) → Lays s start aim (back row n t) q b (n + 8) (k - 1)
+    others : (q b : ℕ) (t : List ℕ) → b ≤ q → Laid t (wordsFrom s q b (k - 1)) → Lays s start aim (backPart row n (n + recordLen) t) q b (n + recordLen) (k - 1)
     others q b t i g = record { fits = omega (arith, l .fits, l .laying .long, g .long); low = i; laying = g }
 
     -- ---- a frame
@@ -107,9 +101,9 @@ module _ (s start aim row : List ℕ) (p a n k : ℕ) (l : Lays s start aim row 
       pub frame-there : m .end ≤ length s
       frame-there = w .measured .there
 
-      pub lays-frame : (t : List ℕ) → t ≡ laid (tail row n) 0 (recordWords (measuredRecord a m)) → Lays s start aim (back row n t) (m .end) (a + m .«payload_len») (n + 8) (k - 1)
+      pub lays-frame : (t : List ℕ) → t ≡ laid (partOf row n (n + recordLen)) 0 (recordWords (measuredRecord p a m)) → Lays s start aim (backPart row n (n + recordLen) t) (m .end) (a + m .«payload_len») (n + recordLen) (k - 1)
       lays-frame t i =
-          let x : SalvageEntry = record { entry = Framed (measuredRecord a m) } in
+          let x : SalvageEntry = record { entry = Framed (measuredRecord p a m) } in
           let q : ℕ = m .end in
           let b : ℕ = a + m .«payload_len» in
           others q b t frame-low (one-laid x (wordsFrom s q b (k - 1)) t (one-left x (placed q b (k - 1)) (Frame m) e refl) refl i)
@@ -118,25 +112,25 @@ module _ (s start aim row : List ℕ) (p a n k : ℕ) (l : Lays s start aim row 
 
     module _ (r : Refused) where
       -- that is stepped over
-      pub lays-over : (q : ℕ) (t : List ℕ) → stepAt s p ≡ Over r q → t ≡ laid (tail row n) 0 (refusalWords r) → Lays s start aim (back row n t) q a (n + 8) (k - 1)
+      pub lays-over : (q : ℕ) (t : List ℕ) → stepAt s p ≡ Over r q → t ≡ laid (partOf row n (n + recordLen)) 0 (refusedWords r p q) → Lays s start aim (backPart row n (n + recordLen) t) q a (n + recordLen) (k - 1)
       lays-over q t e i =
           let w : OnOver s p r q = on-over s p r q e in
           others q a t (omega (arith, l .low, w .past))
-          (one-laid (refusing r) (wordsFrom s q a (k - 1)) t (one-left (refusing r) (placed q a (k - 1)) (Over r q) e refl) refl i)
+          (one-laid (refusing r p q) (wordsFrom s q a (k - 1)) t (one-left (refusing r p q) (placed q a (k - 1)) (Over r q) e refl) refl i)
 
-      module _ (t : List ℕ) (e : stepAt s p ≡ Last r) (i : t ≡ laid (tail row n) 0 (refusalWords r)) where
+      module _ (t : List ℕ) (e : stepAt s p ≡ Last r) (i : t ≡ laid (partOf row n (n + recordLen)) 0 (refusedWords r p p)) where
         -- that the walk ends at
         last-laid : Laid t []
         last-laid =
-            one-laid (refusing r) [] t
-            (one-left (refusing r) (placed p a 0) (Last r) e refl
-            ∙ ap (λ (x : List ℕ). refusalWords r ++ x) (ap (joined entryWords) (records-none (k - 1) s (placed p a 0) refl) ∙ joined-none entryWords))
+            one-laid (refusing r p p) [] t
+            (one-left (refusing r p p) (placed p a 0) (Last r) e refl
+            ∙ ap (λ (x : List ℕ). refusedWords r p p ++ x) (ap (joined entryWords) (records-none (k - 1) s (placed p a 0) refl) ∙ joined-none entryWords))
             refl i
 
-        pub lays-last : back row n t ≡ aim
-        lays-last = laying-end start aim (back row n t) [] (n + 8) last-laid refl
+        pub lays-last : backPart row n (n + recordLen) t ≡ aim
+        lays-last = laying-end start aim (backPart row n (n + recordLen) t) [] (n + recordLen) last-laid refl
 
-        pub last-long : length (back row n t) ≡ length start
+        pub last-long : length (backPart row n (n + recordLen) t) ≡ length start
         last-long = last-laid .long
 
 -- ---- the whole row

@@ -12,12 +12,13 @@ use Rattle.dss_salvage.specs.declared.SalvageEntry.{SalvageEntry}
 use Rattle.dss_salvage.specs.declared.Salvaged.{Salvaged}
 use Rattle.dss_salvage.specs.declared.Salvaged.the-variants.{Done, Refused as NotSalvaged}
 use Rattle.gateway_words.specs.Words.{refusalWords, doneWords, Answered}
-use Rattle.gateway_row.specs.RowWords.{recordWords, places, joined}
+use Rattle.gateway_row.specs.RowWords.{recordWords, refusedWords, places, joined}
 
--- "Entries are listed in order, one record each, a refusal's without payload": a frame's first word is 0, a refusal's its number
+-- "Entries are listed in order, one record each, a refusal's without payload": a frame's first word is 0, a refusal's its number; the
+-- last two say where it stood
 abbrev pub wordsOf : Entry → List ℕ
 wordsOf (Frame f) = recordWords f
-wordsOf (Refuses r) = refusalWords r
+wordsOf (Refuses r p e) = refusedWords r p e
 
 abbrev pub entryWords : SalvageEntry → List ℕ
 entryWords e = wordsOf (e .entry)

@@ -1,23 +1,24 @@
 // The salvage reading for C and Rust: document 01, "Salvage reading". Slices, numbers and words go as in the crate gateway. The
-// row of entries is lent as words, eight a record.
+// row of entries is lent as words, ten a record.
 ghost use mathlib.Core.Path.{_≡_};
 ghost use Prim.Native.Nat.{_*_, _≤_};
 ghost use lib.ListN.{length};
 ghost use Rattle.wire.specs.Bytes.{splice};
 ghost use Rattle.dss_salvage_row.specs.Entries.{recordsFrom, startsAt};
 ghost use Rattle.gateway_words.specs.Words.{Answered};
-ghost use Rattle.gateway_row.specs.RowWords.{joined};
+ghost use Rattle.gateway_row.specs.RowWords.{recordLen, joined};
 ghost use Rattle.gateway_salvage.specs.SalvageWords.{entryWords, salvagedWords, SalvagesInWords};
-use dss_frame::DssFrame;
 use dss_salvage::Salvaged;
 use dss_salvage::Step;
-use gateway_row::put_frame;
+use gateway_row::RECORD_WORDS;
+use gateway_row::put_record;
+use gateway_row::put_refused;
 use gateway_words::put_done;
 use gateway_words::put_refusal;
 
-// The records of so many entries of a run, eight words each, with their payloads end to end.
+// The records of so many entries of a run, ten words each, with their payloads end to end.
 pub(crate) fn lay_entries(run: &[u8], count: usize, row: &mut [u64])
-    requires { ⌜ 8 * count ≤ length (now row) ⌝ }
+    requires { ⌜ recordLen * count ≤ length (now row) ⌝ }
     ensures { λ _. ⌜ now (row .exit) ≡ splice (now (row .entry)) 0 (joined entryWords (recordsFrom count (now (run .entry)) (startsAt 0 count))) ⌝ }
 {
     let mut at = 0;
@@ -25,30 +26,24 @@ pub(crate) fn lay_entries(run: &[u8], count: usize, row: &mut [u64])
     let mut filled = 0;
     let mut left = count;
     while 0 < left {
+        let next = filled + RECORD_WORDS;
         match dss_salvage::entry_at(run, at) {
             Step::Frame(measure) => {
-                let header = measure.header;
-                let payload_len = measure.payload_len;
-                let record = DssFrame {
-                    header,
-                    payload_at,
-                    payload_len,
-                    segments: measure.segments,
-                };
-                put_frame(&mut row[filled..], payload_at, record);
+                let record = measure.record(at, payload_at);
+                put_record(&mut row[filled..next], record);
                 at = measure.end;
-                payload_at += payload_len;
-                filled += 8;
+                payload_at += measure.payload_len;
+                filled = next;
                 left -= 1;
             }
-            Step::Over(refused, next) => {
-                put_refusal(&mut row[filled..], refused);
-                at = next;
-                filled += 8;
+            Step::Over(refused, end) => {
+                put_refused(&mut row[filled..next], refused, at, end);
+                at = end;
+                filled = next;
                 left -= 1;
             }
             Step::Last(refused) => {
-                put_refusal(&mut row[filled..], refused);
+                put_refused(&mut row[filled..next], refused, at, at);
                 return;
             }
             Step::End => {
@@ -80,7 +75,7 @@ pub extern "C" fn lattrugone_salvage(
 ) -> u8
     ensures { λ r. ⌜ SalvagesInWords (now (run .entry)) (now (room .entry)) (now (row .entry)) (now (words .entry)) r (now (room .exit)) (now (row .exit)) (now (words .exit)) ⌝ }
 {
-    let salvaged = dss_salvage_call::gather(run, room, row.len() / 8);
+    let salvaged = dss_salvage_call::gather(run, room, row.len() / RECORD_WORDS);
     let count = dss_salvage_call::entries_in(salvaged);
     lay_entries(run, count, row);
     put_salvaged(words, salvaged)

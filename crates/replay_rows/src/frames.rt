@@ -8,7 +8,8 @@ use dss_reader::FramesRead;
 use dss_salvage::Entry;
 use dss_salvage::SalvageEntry;
 use dss_salvage::Salvaged;
-use gateway_row::put_frame;
+use gateway_row::put_record;
+use gateway_row::put_refused;
 use gateway_words::put_done;
 use gateway_words::put_refusal;
 use gateway_words::put_words;
@@ -33,15 +34,17 @@ fn blank() -> DssFrame {
         payload_at: 99,
         payload_len: 99,
         segments: 0,
+        at: 99,
+        end: 98,
     }
 }
 
 fn lay_frames(records: [DssFrame; 16], row: &mut [u64]) {
     let mut i: usize = 0;
     while i < 16 {
-        let from = at_most(8 * (i as u64), row.len());
+        let from = at_most(10 * (i as u64), row.len());
         let record = records[i];
-        put_frame(&mut row[from..], record.payload_at, record);
+        put_record(&mut row[from..], record);
         i += 1;
     }
 }
@@ -79,17 +82,15 @@ pub(crate) fn all(
 fn put_entry(words: &mut [u64], record: SalvageEntry) {
     let what = record.entry;
     match what {
-        Entry::Frame(frame) => put_frame(words, frame.payload_at, frame),
-        Entry::Refused(refused) => {
-            put_refusal(words, refused);
-        }
+        Entry::Frame(frame) => put_record(words, frame),
+        Entry::Refused { refused, at, end } => put_refused(words, refused, at, end),
     }
 }
 
 fn lay_entries(records: [SalvageEntry; 16], row: &mut [u64]) {
     let mut i: usize = 0;
     while i < 16 {
-        let from = at_most(8 * (i as u64), row.len());
+        let from = at_most(10 * (i as u64), row.len());
         let record = records[i];
         put_entry(&mut row[from..], record);
         i += 1;

@@ -30,6 +30,8 @@ fn blank_frame() -> DssFrame {
         payload_at: 99,
         payload_len: 99,
         segments: 0,
+        at: 99,
+        end: 98,
     }
 }
 

@@ -22,6 +22,13 @@ fn count(before: &[u8], n: usize) {
     number(before, n as u64);
 }
 
+// Where a record's frame stood, and the line's end.
+fn stretch(at: usize, end: usize) {
+    count(b" from ", at);
+    count(b" to ", end);
+    io::write_all(STDOUT_FILENO, b"\n");
+}
+
 pub(crate) fn frame(frame: DssFrame) {
     let head = frame.header;
     let dss_type = head.dss_type;
@@ -33,19 +40,19 @@ pub(crate) fn frame(frame: DssFrame) {
     count(b" at ", frame.payload_at);
     count(b" bytes ", frame.payload_len);
     count(b" seg ", frame.segments);
-    io::write_all(STDOUT_FILENO, b"\n");
+    stretch(frame.at, frame.end);
 }
 
 pub(crate) fn entry(e: SalvageEntry) {
     let what = e.entry;
     match what {
         Entry::Frame(f) => frame(f),
-        Entry::Refused(refused) => {
+        Entry::Refused { refused, at, end } => {
             let why = refused.why;
             byte(b"refused ", why.number());
             count(b" at ", refused.place);
             count(b" value ", why.first_value());
-            io::write_all(STDOUT_FILENO, b"\n");
+            stretch(at, end);
         }
     }
 }

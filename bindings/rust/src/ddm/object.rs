@@ -1,6 +1,6 @@
 //! Objects and parameters.
 use crate::loan::{ask, Loan};
-use crate::port::{self, Words};
+use crate::port::{self, Words, WORDS};
 use crate::Result;
 
 /// A parameter in an object's data.
@@ -44,7 +44,8 @@ pub struct DdmObject {
 impl DdmObject {
     /// The object at the front of `bytes`, and how many of them it takes.
     pub fn parse(bytes: &[u8]) -> Result<(Self, usize)> {
-        let loan = Loan::of(|loan| port::object(bytes, 0, &mut loan.room, &mut loan.words))?;
+        let loan =
+            Loan::<WORDS>::of(|loan| port::object(bytes, 0, &mut loan.room, &mut loan.words))?;
         let (code_point, data) = read(&loan.words, bytes, &loan.room);
         Ok((Self { code_point, data }, loan.words[6] as usize))
     }
@@ -60,7 +61,7 @@ impl DdmObject {
     /// assert_eq!((parameters[0].code_point, parameters[0].as_u16()), (0x1404, Some(0x2116)));
     /// ```
     pub fn parameters(&self) -> Vec<DdmParam> {
-        let found = Loan::of(|loan| {
+        let found = Loan::<WORDS>::of(|loan| {
             let (room, row, words) = (&mut loan.room, &mut loan.row, &mut loan.words);
             port::parameters(&self.data, room, row, words)
         });
@@ -71,7 +72,7 @@ impl DdmObject {
 
     /// The first parameter with a code point.
     pub fn find_param(&self, code_point: u16) -> Option<DdmParam> {
-        let found = Loan::of(|loan| {
+        let found = Loan::<WORDS>::of(|loan| {
             let (room, words) = (&mut loan.room, &mut loan.words);
             port::find_param(&self.data, code_point, room, words)
         });
@@ -95,7 +96,7 @@ impl DdmObject {
     /// # }
     /// ```
     pub fn with_param(&self, code_point: u16, new: &[u8]) -> Result<Self> {
-        let loan = Loan::of(|loan| {
+        let loan = Loan::<WORDS>::of(|loan| {
             let (room, words) = (&mut loan.room, &mut loan.words);
             port::change_param(&self.data, code_point, new, room, words)
         })?;
@@ -118,7 +119,7 @@ impl DdmObject {
 
 /// All objects of `bytes`, one behind the other; 1 to 3 last bytes are ignored.
 pub fn parse_ddm_objects(bytes: &[u8]) -> Result<Vec<DdmObject>> {
-    let loan = Loan::of(|loan| {
+    let loan = Loan::<WORDS>::of(|loan| {
         let (room, row, words) = (&mut loan.room, &mut loan.row, &mut loan.words);
         port::objects(bytes, room, row, words)
     })?;

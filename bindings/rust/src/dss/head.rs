@@ -1,7 +1,7 @@
 //! A segment's head.
 use super::DSS_HEADER_LEN;
 use crate::loan::ask;
-use crate::port::{self, Words};
+use crate::port;
 use crate::Result;
 
 /// A frame's type.
@@ -127,9 +127,8 @@ impl DssHeader {
     }
 
     /// The first head of a frame, of its words.
-    pub(super) fn of_frame(words: &Words) -> Result<Self> {
-        let [_, _, length, format, correlation, ..] = *words;
-        Self::of([length, format, correlation])
+    pub(super) fn of_frame<const WIDTH: usize>(words: &[u64; WIDTH]) -> Result<Self> {
+        Self::of([words[2], words[3], words[4]])
     }
 
     fn of([length, format, correlation]: [u64; 3]) -> Result<Self> {

@@ -2,25 +2,57 @@
 use super::DssHeader;
 use crate::error::Refusal;
 use crate::loan::{ask, Loan};
-use crate::port::{self, Words};
+use crate::port::{self, Record, RECORD_WORDS, WORDS};
 use crate::{ProtoError, Result};
+use std::fmt::{self, Debug, Formatter};
+use std::ops::Range;
 
-/// A frame: its first head, its payload.
-#[derive(Debug, Clone)]
+/// A frame: its first head, its payload, and where it stood.
+#[derive(Clone)]
 pub struct DssFrame {
     /// The first head; chained as the last absorbed segment says.
     pub header: DssHeader,
     /// The payloads of all its segments, joined.
     pub payload: Vec<u8>,
+    span: Range<usize>,
+}
+
+/// As db2-proto shows one: where it stood isn't shown.
+impl Debug for DssFrame {
+    fn fmt(&self, out: &mut Formatter) -> fmt::Result {
+        let mut shown = out.debug_struct("DssFrame");
+        shown.field("header", &self.header);
+        shown.field("payload", &self.payload).finish()
+    }
 }
 
 impl DssFrame {
+    /// Where it stood in the bytes it was read from, with its continuations and what it absorbed: from its first byte up to the byte
+    /// after its last. Added. A reader's bytes are counted from the first one that it was given, as [`DssReader::position`] is.
+    ///
+    /// ```
+    /// use lattrugone::dss::{build_dss_object, DssReader};
+    ///
+    /// # fn main() -> lattrugone::Result<()> {
+    /// let mut run = build_dss_object(1, false, b"station 0412");
+    /// run.extend(build_dss_object(2, false, &[0xF0; 40000]));
+    /// let frames = DssReader::new(run.clone()).read_all_frames()?;
+    /// assert_eq!((frames[0].span(), frames[1].span()), (0..18, 18..40026));
+    /// assert_eq!(run[frames[1].span()][..6], [0xFF, 0xFF, 0xD0, 0x03, 0x00, 0x02]);
+    /// # Ok(())
+    /// # }
+    /// ```
+    pub fn span(&self) -> Range<usize> {
+        self.span.clone()
+    }
+
     /// Of a record in a row, its payload being a part of the room.
-    pub(super) fn of_record(record: &Words, room: &[u8]) -> Result<Self> {
+    pub(super) fn of_record(record: &Record, room: &[u8]) -> Result<Self> {
         let (at, len) = (record[1] as usize, record[5] as usize);
         Ok(Self {
             header: DssHeader::of_frame(record)?,
             payload: room[at..at + len].to_vec(),
+            span: record[8] as usize..record[9] as usize,
         })
     }
 }
@@ -114,16 +146,20 @@ impl DssReader {
 
     /// The same, and of how many segments it is: added.
     pub fn next_frame_counted(&mut self) -> Result<Option<(DssFrame, usize)>> {
-        let read = Loan::of(|loan| {
+        let read = Loan::<WORDS>::of(|loan| {
             let (room, words) = (&mut loan.room, &mut loan.words);
             port::next_frame(&self.buffer, self.position, room, words)
         });
         match read {
             Ok(loan) => {
-                self.position = loan.words[1] as usize;
-                let header = DssHeader::of_frame(&loan.words)?;
-                let payload = loan.room;
-                Ok(Some((DssFrame { header, payload }, loan.words[6] as usize)))
+                let [_, behind, .., segments, first] = loan.words.map(|word| word as usize);
+                self.position = behind;
+                let frame = DssFrame {
+                    header: DssHeader::of_frame(&loan.words)?,
+                    payload: loan.room,
+                    span: first..behind,
+                };
+                Ok(Some((frame, segments)))
             }
             Err(refusal) if refusal.is_not_whole() => Ok(None),
             Err(refusal) => Err(self.refused(refusal)),
@@ -132,7 +168,7 @@ impl DssReader {
 
     /// All frames up to the first that isn't whole. Where one is refused, all are.
     pub fn read_all_frames(&mut self) -> Result<Vec<DssFrame>> {
-        let read = Loan::of(|loan| {
+        let read = Loan::<RECORD_WORDS>::of(|loan| {
             let (room, row, words) = (&mut loan.room, &mut loan.row, &mut loan.words);
             port::read_all_frames(&self.buffer, self.position, room, row, words)
         });

@@ -2,8 +2,9 @@
 use super::DssFrame;
 use crate::error::Refusal;
 use crate::loan::Loan;
-use crate::port::{self, Words};
+use crate::port::{self, Record, RECORD_WORDS};
 use crate::{ProtoError, Result};
+use std::ops::Range;
 
 /// All that can be read of a run.
 #[derive(Debug, Clone)]
@@ -28,6 +29,8 @@ pub enum Entry {
     Refused {
         /// Its first byte.
         place: usize,
+        /// The byte after its last; its first one where the reading ended there, its length being below 6.
+        end: usize,
         /// Why: its magic, its type, or its length.
         error: ProtoError,
     },
@@ -52,14 +55,14 @@ pub enum Entry {
 /// let found = salvage(&run);
 /// let line = |entry: &Entry| match entry {
 ///     Entry::Frame { frame, .. } => String::from_utf8_lossy(&frame.payload).into_owned(),
-///     Entry::Refused { place, error } => format!("{error} at {place}"),
+///     Entry::Refused { place, error, .. } => format!("{error} at {place}"),
 /// };
 /// let lines: Vec<_> = found.entries.iter().map(line).collect();
 /// assert_eq!(lines, ["station 0412", "invalid DSS magic byte: 0xD1 at 18", "station 0414"]);
 /// assert_eq!(found.tail, run.len());
 /// ```
 pub fn salvage(run: &[u8]) -> Salvage {
-    let read = Loan::of(|loan| {
+    let read = Loan::<RECORD_WORDS>::of(|loan| {
         let (room, row, words) = (&mut loan.room, &mut loan.row, &mut loan.words);
         port::salvage(run, room, row, words)
     });
@@ -72,11 +75,34 @@ pub fn salvage(run: &[u8]) -> Salvage {
 }
 
 impl Entry {
-    fn of(record: &Words, room: &[u8]) -> Result<Self> {
+    /// Where it stood in the run: from its first byte up to the byte after its last. The stretches of a salvage follow each other
+    /// without gap or overlap, from 0 to its tail.
+    ///
+    /// ```
+    /// use lattrugone::dss::{build_dss_object, salvage};
+    ///
+    /// let mut run = build_dss_object(1, false, b"station 0412");
+    /// run.extend(build_dss_object(2, false, b"station 0413"));
+    /// run[2] = 0xD1;
+    /// run.extend([0, 6]);
+    /// let found = salvage(&run);
+    /// let spans: Vec<_> = found.entries.iter().map(|entry| entry.span()).collect();
+    /// assert_eq!((spans, found.tail), (vec![0..18, 18..36], 36));
+    /// ```
+    pub fn span(&self) -> Range<usize> {
+        match self {
+            Entry::Frame { frame, .. } => frame.span(),
+            Entry::Refused { place, end, .. } => *place..*end,
+        }
+    }
+
+    fn of(record: &Record, room: &[u8]) -> Result<Self> {
         if record[0] != 0 {
-            let refusal = Refusal(*record);
+            let [number, place, a, b, c, d, e, f, ..] = *record;
+            let refusal = Refusal([number, place, a, b, c, d, e, f]);
             let (place, error) = (refusal.place(), refusal.error());
-            return Ok(Entry::Refused { place, error });
+            let end = record[9] as usize;
+            return Ok(Entry::Refused { place, end, error });
         }
         Ok(Entry::Frame {
             frame: DssFrame::of_record(record, room)?,

@@ -8,7 +8,10 @@ use db2_proto::{ProtoError, Result};
 fn objects(run: &[u8]) -> Result<Vec<DdmObject>> {
     let mut reader = DssReader::new(run.to_vec());
     let mut all = Vec::new();
-    while let Some(DssFrame { header, payload }) = reader.next_frame()? {
+    while let Some(DssFrame {
+        header, payload, ..
+    }) = reader.next_frame()?
+    {
         if header.dss_type != DssType::Communication {
             all.extend(parse_ddm_objects(&payload)?);
         }

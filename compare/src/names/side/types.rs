@@ -60,7 +60,9 @@ const _: [fn(&mut DssWriter, &[u8], bool); 4] = [
 const _: [fn(u16, bool, &[u8]) -> Vec<u8>; 2] = [build_dss_request, build_dss_object];
 
 const _: fn(DssFrame) -> (DssHeader, Vec<u8>) = |frame| {
-    let DssFrame { header, payload } = frame;
+    let DssFrame {
+        header, payload, ..
+    } = frame;
     (header, payload)
 };
 const _: fn(Vec<u8>) -> DssReader = DssReader::new;

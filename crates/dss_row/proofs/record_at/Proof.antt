@@ -20,17 +20,20 @@ enum-told c = search needs
 enum-known-measure : tie.Need-enum-known-measure
 enum-known-measure c = search needs
 
+record-requires : tie.Need-record-requires
+record-requires c κs = search needs
+
 -- what the measure is of
-measured : (c : tie.After-header)
-    → (let a = c .before .before .before .before .before .before .before .args in
-    Measures Reader (a .run .now) (a .place .at) (c .before .before .measure2 .given .0 .0))
-measured c = measures Reader _ _ _ (sym (c .before .before .before .before .measure .ensures) ∙ c .before .before .measure2 .given .1)
+measured : (c : tie.After-measure2)
+    → (let a = c .before .before .before .before .before .args in
+    Measures Reader (a .run .now) (a .place .at) (c .measure2 .given .0 .0))
+measured c = measures Reader _ _ _ (sym (c .before .before .measure .ensures) ∙ c .measure2 .given .1)
 
-add-t15 : tie.Need-add-t15
-add-t15 c = omega (arith, measured c)
+add-t13 : tie.Need-add-t13
+add-t13 c = omega (arith, measured (c .before .before .before))
 
-sub-t16 : tie.Need-sub-t16
-sub-t16 c = search needs
+sub-t14 : tie.Need-sub-t14
+sub-t14 c = search needs
 
 returns-2 : tie.Need-returns-2
 returns-2 c =
@@ -38,7 +41,9 @@ returns-2 c =
     sym (record-read _ _ _ (w .before .if1 .left) (measured-not Reader _ _ _ (sym (w .measure .ensures) ∙ c .enum-told .given .1)))
 
 returns-3 : tie.Need-returns-3
-returns-3 c = sym (record-measured _ _ _ (c .before .before .before .before .before .if1 .left) (measured c))
+returns-3 c =
+    let m = c .before .before .before in
+    rw (c .before .record .ensures) (sym (record-measured _ _ _ (m .before .before .before .if1 .left) (measured m)))
 
 pub record-at-spec : {M : Type 1} → statement M
 record-at-spec =
@@ -48,7 +53,8 @@ record-at-spec =
     measure-requires
     enum-told
     enum-known-measure
-    add-t15
-    sub-t16
+    record-requires
+    add-t13
+    sub-t14
     returns-2
     returns-3)

@@ -128,7 +128,7 @@ abbrev the-one : Body
 the-one =
     seq (assign (place 7 []) (rvOpd (copy (place 11 (variant 0 ∷ field 1 ∷ [])))))
     (seq (assign (place 8 []) (rvOpd (copy (place 11 (variant 0 ∷ field 2 ∷ [])))))
-    (seq (assign (place 12 []) (op2 (mul unsigned) (copy (place 5 [])) (int w64 40)))
+    (seq (assign (place 12 []) (op2 (mul unsigned) (copy (place 5 [])) (int w64 56)))
     (seq (assign (place 13 []) (op2 offset (copy (place 4 (field 0 ∷ []))) (copy (place 12 []))))
     (seq (assign (place 13 (deref recTy ∷ [])) (rvOpd (copy (place 7 []))))
     (seq (assign (place 6 []) (rvOpd (copy (place 8 []))))
@@ -138,7 +138,7 @@ abbrev the-switch : Body
 the-switch = switch (copy (place 11 (variant 0 ∷ field 0 ∷ []))) (arm (0 ∷ []) the-one (arm (1 ∷ []) (exit 1) noDefault))
 
 -- ---- the plain mathematics
-scaled : {i n : ℕ} → i < n → n * 40 < 2 ^ 63 → i * 40 < 2 ^ 64
+scaled : {i n : ℕ} → i < n → n * 56 < 2 ^ 63 → i * 56 < 2 ^ 64
 scaled h k = omega arith
 
 set-at : (d : List SalvageEntry) (z r : SalvageEntry) (l : List SalvageEntry) → set (d ++ (z ∷ l)) (length d) r ≡ (d ++ (r ∷ [])) ++ l
@@ -326,7 +326,7 @@ module _ {M : Type 1} (𝓤 : URA M) (H : Heap 𝓤) (A : Atoms 𝓤) (W : Given
         assigns ! (of-opd ! (load ! (from ! (vrt ! refl (fld ! refl (stop !)))) (look-in ! 9 (in-variant ! 0 1 refl refl (whole !))))) (from ! (stop !)) (init ! 6 refl (LL.lawful P.the-type P′.the-laws 𝓤 H A W .typed next _ next-is .0)) $
         assigns ! (bin ! (load ! (from ! (stop !)) (look ! 3 refl)) (lit ! tt) (record { fits = scaled within (room .1) })) (from ! (stop !)) (init ! 10 refl (tt, record { fits = scaled within (room .1) })) $
         assigns ! (bin ! (load ! (from ! (fld ! refl (stop !))) (look-in ! 15 (sub ! 0 refl (whole !)))) (load ! (from ! (stop !)) (look ! 10 refl)) tt) (from ! (stop !)) (init ! 11 refl (tt, tt)) $
-        rewrite ! 11 (λ (p : ℕ). ‵ (fat fullShare ptr l₁₃ 0 (vptr b p))) (sym (place-is 40 o (length (σ .done)))) refl $
+        rewrite ! 11 (λ (p : ℕ). ‵ (fat fullShare ptr l₁₃ 0 (vptr b p))) (sym (place-is 56 o (length (σ .done)))) refl $
         elem-out ! R.the-row (Is R.the-row) (shows 𝓤 H A R.the-row) vals (LL.tells R.the-type R′.the-laws) fullShare (now σ) (length (σ .done)) r b o inside (λ _.
         -- [row[i]; what it owns; the others; the token; what s owns; i; at; _5 … _11; _1; _2; …]
         assigns ! (of-opd ! (load ! (from ! (stop !)) (look ! 7 refl))) (from ! (hop ! (look ! 13 refl) (stop !))) (store-raw ! 0 refl (LL.lawful R.the-type R′.the-laws 𝓤 H A W .typed r _ r-is .0)) $

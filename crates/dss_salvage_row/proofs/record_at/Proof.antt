@@ -22,23 +22,26 @@ enum-known-refused c = search needs
 enum-known-refused-2 : tie.Need-enum-known-refused-2
 enum-known-refused-2 c = search needs
 
-sub-t22 : tie.Need-sub-t22
-sub-t22 c = search needs
+sub-t21 : tie.Need-sub-t21
+sub-t21 c = search needs
 
 enum-known-measure : tie.Need-enum-known-measure
 enum-known-measure c = search needs
 
+record-requires : tie.Need-record-requires
+record-requires c κs = search needs
+
 -- the frame that was found
-framed : (c : tie.After-header)
-    → (let a = c .before .before .before .before .before .before .before .args in
-    OnFrame (a .run .now) (a .place .at) (c .before .before .measure .given .0 .0))
-framed c = on-frame _ _ _ (sym (c .before .before .before .before .entry-at .ensures) ∙ c .before .before .measure .given .1)
+framed : (c : tie.After-measure)
+    → (let a = c .before .before .before .before .before .args in
+    OnFrame (a .run .now) (a .place .at) (c .measure .given .0 .0))
+framed c = on-frame _ _ _ (sym (c .before .before .entry-at .ensures) ∙ c .measure .given .1)
 
-add-t25 : tie.Need-add-t25
-add-t25 c = let w = framed c .measured in omega (arith, w)
+add-t23 : tie.Need-add-t23
+add-t23 c = let w = framed (c .before .before .before) .measured in omega (arith, w)
 
-sub-t26 : tie.Need-sub-t26
-sub-t26 c = search needs
+sub-t24 : tie.Need-sub-t24
+sub-t24 c = search needs
 
 returns-2 : tie.Need-returns-2
 returns-2 c =
@@ -57,8 +60,9 @@ returns-4 c =
 
 returns-5 : tie.Need-returns-5
 returns-5 c =
-    let w = c .before .before .before .before in
-    sym (record-step _ _ _ (w .before .if1 .left) (sym (w .entry-at .ensures) ∙ c .before .before .measure .given .1))
+    let m = c .before .before .before in
+    let w = m .before .before in
+    rw (c .before .record .ensures) (sym (record-step _ _ _ (w .before .if1 .left) (sym (w .entry-at .ensures) ∙ m .measure .given .1)))
 
 pub record-at-spec : {M : Type 1} → statement M
 record-at-spec =
@@ -69,10 +73,11 @@ record-at-spec =
     enum-told
     enum-known-refused
     enum-known-refused-2
-    sub-t22
+    sub-t21
     enum-known-measure
-    add-t25
-    sub-t26
+    record-requires
+    add-t23
+    sub-t24
     returns-2
     returns-3
     returns-4

@@ -2,12 +2,15 @@
 -- that are, and the row with their records, are those that are to come. The measure is how many are left.
 use Prim.Native.Nat.{ℕ, _+_, _-_, _≤_}
 use native.Mathlib.Omega.{arith}
-use mathlib.Core.Path.{_≡_, sym, _∙_}
+use mathlib.Core.Path.{_≡_, sym, ap, _∙_}
 use lib.ListN.{length}
 use borrow.Author.Needs.{needs}
-use Rattle.wire.specs.Bytes.{splice}
+use Rattle.wire.specs.Bytes.{splice, laid}
 use Rattle.dss_frame.specs.Frames.{allFrames}
+use Rattle.dss_frame.specs.declared.DssFrame.{DssFrame}
 use Rattle.dss_reader.specs.Taking.{allPayloads, taking-inside, taking-length}
+use Rattle.gateway_row.specs.RowWords.{recordWords, recordLen}
+use Rattle.gateway_row.specs.LaidWords.{partOf}
 use Rattle.gateway_frames.specs.LaidRecords.{wordsFrom, Taking, taking-starts, taking-ends, taking-stays, taking-low, taking-there, taking-one}
 use Rattle.gateway_frames.proofs.take_frames.Statement.{statement}
 use Rattle.gateway_frames.proofs.take_frames.Tie as tie
@@ -55,33 +58,40 @@ returns c = absurd (never c)
 enum-known-measure : tie.Need-enum-known-measure Inv-loop μ-loop
 enum-known-measure c = search needs
 
-mul-put-frame : tie.Need-mul-put-frame Inv-loop μ-loop
-mul-put-frame c = omega arith
+record-requires : tie.Need-record-requires Inv-loop μ-loop
+record-requires c κs = search needs
 
-sub-put-frame : tie.Need-sub-put-frame Inv-loop μ-loop
-sub-put-frame c = omega (arith, c .before .before .before .before .before .before .before .before .before .loop .inv .records .fits)
+add-next : tie.Need-add-next Inv-loop μ-loop
+add-next c =
+    let k = c .before .before .before .before .before .before .before .before .before in
+    let l = k .loop .inv .records in
+    omega (arith, l .fits, l .laying .long, k .before .before .before .before)
 
-part-put-frame-start : tie.Need-part-put-frame-start Inv-loop μ-loop
-part-put-frame-start c = omega (arith, c .before .before .before .before .before .before .before .before .before .loop .inv .records .fits)
+mul-put-record : tie.Need-mul-put-record Inv-loop μ-loop
+mul-put-record c =
+    let k = c .before .before .before .before .before .before .before .before .before in
+    let l = k .loop .inv .records in
+    omega (arith, l .fits, l .laying .long, k .before .before .before .before)
 
-part-put-frame-end : tie.Need-part-put-frame-end Inv-loop μ-loop
-part-put-frame-end c = search needs
+sub-put-record : tie.Need-sub-put-record Inv-loop μ-loop
+sub-put-record c = omega (arith, c .before .before .before .before .before .before .before .before .before .loop .inv .records .fits)
 
-put-frame-requires : tie.Need-put-frame-requires Inv-loop μ-loop
-put-frame-requires c κs = search needs
+part-put-record-start : tie.Need-part-put-record-start Inv-loop μ-loop
+part-put-record-start c = omega (arith, c .before .before .before .before .before .before .before .before .before .loop .inv .records .fits)
+
+part-put-record-end : tie.Need-part-put-record-end Inv-loop μ-loop
+part-put-record-end c = omega (arith, c .before .before .before .before .before .before .before .before .before .loop .inv .records .fits)
+
+put-record-requires : tie.Need-put-record-requires Inv-loop μ-loop
+put-record-requires c κs = search needs
 
 add-payload-at : tie.Need-add-payload-at Inv-loop μ-loop
 add-payload-at c =
-    let k = c .before .before .before .before .before .before .before .before .before .before in
+    let k = c .before .before .before .before .before .before .before .before .before .before .before in
     let w = k .before .before .before .loop .inv in
     let h = k .before .before .loop-test .taken in
-    let e = c .before .before .before .before .before .before .measure .given .1 in
+    let e = c .before .before .before .before .before .before .before .measure .given .1 in
     omega (arith, taking-low w h _ _ _ (k .take .ensures) e, taking-there w h _ _ _ (k .take .ensures) e)
-
-add-filled : tie.Need-add-filled Inv-loop μ-loop
-add-filled c =
-    let l = c .before .before .before .before .before .before .before .before .before .before .before .before .before .loop .inv .records in
-    omega (arith, l .fits, l .laying .long, c .before .before .before .before .before .before .before .before .before .before .before .before .before .before .before .before .before)
 
 sub-left : tie.Need-sub-left Inv-loop μ-loop
 sub-left c = omega arith
@@ -91,8 +101,10 @@ loop-less c = omega arith
 
 loop-again : tie.Need-loop-again Inv-loop μ-loop
 loop-again c =
-    let k = c .before .before .before .before .before .before .before .before .before .before in
-    taking-one (k .before .before .before .loop .inv) (k .before .before .loop-test .taken) _ _ _ (k .take .ensures) (c .before .before .before .before .before .before .measure .given .1) _ (c .before .before .put-frame .ensures)
+    let k = c .before .before .before .before .before .before .before .before .before .before .before in
+    let l = k .before .before .before .loop in
+    taking-one (l .inv) (k .before .before .loop-test .taken) _ _ _ (k .take .ensures) (c .before .before .before .before .before .before .before .measure .given .1) _
+    (c .before .before .before .put-record .ensures ∙ ap (λ (d : DssFrame). laid (partOf (l .row) (l .filled) (l .filled + recordLen)) 0 (recordWords d)) (c .before .before .before .before .before .record .ensures))
 
 same-length-3 : tie.Need-same-length-3 Inv-loop μ-loop
 same-length-3 c = sym (taking-length (c .before .loop .inv .payloads)) ∙ taking-length (taking-starts _ _ _ _ _ (c .before .before .before .before .before .pre) .payloads)
@@ -119,13 +131,14 @@ take-frames-spec =
     same-length-2
     returns
     enum-known-measure
-    mul-put-frame
-    sub-put-frame
-    part-put-frame-start
-    part-put-frame-end
-    put-frame-requires
+    record-requires
+    add-next
+    mul-put-record
+    sub-put-record
+    part-put-record-start
+    part-put-record-end
+    put-record-requires
     add-payload-at
-    add-filled
     sub-left
     loop-less
     loop-again

@@ -1,13 +1,16 @@
 -- `gateway_salvage::lay_entries` meets its contract. The loop's invariant: the row with the entries that are left laid down behind those
 -- that are is the one that is to come. The measure is how many are left.
-use Prim.Native.Nat.{ℕ}
+use Prim.Native.Nat.{ℕ, _+_}
 use native.Mathlib.Omega.{arith}
-use mathlib.Core.Path.{_≡_, sym, _∙_}
+use mathlib.Core.Path.{_≡_, sym, ap, _∙_}
 use mathlib.Core.List.{List}
 use borrow.Author.Needs.{needs}
-use Rattle.wire.specs.Bytes.{splice}
+use Rattle.wire.specs.Bytes.{splice, laid}
+use Rattle.dss_frame.specs.declared.DssFrame.{DssFrame}
 use Rattle.dss_salvage.specs.declared.Step.the-variants.{Frame}
 use Rattle.dss_salvage.specs.Steps.{stepAt}
+use Rattle.gateway_row.specs.RowWords.{recordWords, recordLen}
+use Rattle.gateway_row.specs.LaidWords.{partOf}
 use Rattle.gateway_salvage.specs.LaidEntries.{wordsFrom, Lays, lays-start, lays-all, lays-end, frame-low, frame-there, lays-frame, lays-over, lays-last, last-long}
 use Rattle.gateway_salvage.proofs.lay_entries.Statement.{statement}
 use Rattle.gateway_salvage.proofs.lay_entries.Tie as tie
@@ -20,6 +23,11 @@ abbrev μ-loop : tie.MeasureT-loop
 
 loop-holds : tie.Need-loop-holds Inv-loop μ-loop
 loop-holds c = lays-start _ _ _ (c .before .before .pre)
+
+add-next : tie.Need-add-next Inv-loop μ-loop
+add-next c =
+    let l = c .before .loop .inv in
+    omega (arith, l .fits, l .laying .long, c .before .before .before .before)
 
 entry-at-requires : tie.Need-entry-at-requires Inv-loop μ-loop
 entry-at-requires c κs = search needs
@@ -45,33 +53,33 @@ framed : (k : tie.After-measure Inv-loop μ-loop)
     stepAt (run e) (at-loop e .loop .at) ≡ Frame (k .measure .given .0 .0))
 framed k = sym (k .before .before .entry-at .ensures) ∙ k .measure .given .1
 
-mul-put-frame : tie.Need-mul-put-frame Inv-loop μ-loop
-mul-put-frame c = omega arith
+record-requires : tie.Need-record-requires Inv-loop μ-loop
+record-requires c κs = search needs
 
-sub-put-frame : tie.Need-sub-put-frame Inv-loop μ-loop
-sub-put-frame c = omega arith
+mul-put-record : tie.Need-mul-put-record Inv-loop μ-loop
+mul-put-record c = omega arith
 
-part-put-frame-start : tie.Need-part-put-frame-start Inv-loop μ-loop
-part-put-frame-start c = omega arith
+sub-put-record : tie.Need-sub-put-record Inv-loop μ-loop
+sub-put-record c = omega arith
 
-part-put-frame-end : tie.Need-part-put-frame-end Inv-loop μ-loop
-part-put-frame-end c = omega arith
+part-put-record-start : tie.Need-part-put-record-start Inv-loop μ-loop
+part-put-record-start c = omega arith
 
-put-frame-requires : tie.Need-put-frame-requires Inv-loop μ-loop
-put-frame-requires c κs = search needs
+part-put-record-end : tie.Need-part-put-record-end Inv-loop μ-loop
+part-put-record-end c = omega arith
+
+put-record-requires : tie.Need-put-record-requires Inv-loop μ-loop
+put-record-requires c κs = search needs
 
 add-payload-at : tie.Need-add-payload-at Inv-loop μ-loop
 add-payload-at c =
-    let k = c .before .before .before .before .before .before in
+    let k = c .before .before .before .before .before .before .before in
     let e = k .before .before in
     omega (
       arith,
       frame-low _ _ _ _ _ _ _ _ (inv e) (e .before .loop-test .taken) _ (framed k),
       frame-there _ _ _ _ _ _ _ _ (inv e) (e .before .loop-test .taken) _ (framed k),
     )
-
-add-filled : tie.Need-add-filled Inv-loop μ-loop
-add-filled c = omega arith
 
 sub-left : tie.Need-sub-left Inv-loop μ-loop
 sub-left c = omega arith
@@ -81,32 +89,31 @@ loop-less c = omega arith
 
 loop-again : tie.Need-loop-again Inv-loop μ-loop
 loop-again c =
-    let k = c .before .before .before .before .before .before in
+    let k = c .before .before .before .before .before .before .before in
     let e = k .before .before in
-    lays-frame _ _ _ _ _ _ _ _ (inv e) (e .before .loop-test .taken) _ (framed k) _ (c .before .before .put-frame .ensures)
+    let l = at-loop e .loop in
+    lays-frame _ _ _ _ _ _ _ _ (inv e) (e .before .loop-test .taken) _ (framed k) _
+    (c .before .before .before .put-record .ensures ∙ ap (λ (d : DssFrame). laid (partOf (l .row) (l .filled) (l .filled + recordLen)) 0 (recordWords d)) (c .before .before .before .before .before .record .ensures))
 
 -- ---- a refusal that is stepped over
 
 enum-known-refused : tie.Need-enum-known-refused Inv-loop μ-loop
 enum-known-refused c = search needs
 
-mul-put-refusal : tie.Need-mul-put-refusal Inv-loop μ-loop
-mul-put-refusal c = omega arith
+mul-put-refused : tie.Need-mul-put-refused Inv-loop μ-loop
+mul-put-refused c = omega arith
 
-sub-put-refusal : tie.Need-sub-put-refusal Inv-loop μ-loop
-sub-put-refusal c = omega arith
+sub-put-refused : tie.Need-sub-put-refused Inv-loop μ-loop
+sub-put-refused c = omega arith
 
-part-put-refusal-start : tie.Need-part-put-refusal-start Inv-loop μ-loop
-part-put-refusal-start c = omega arith
+part-put-refused-start : tie.Need-part-put-refused-start Inv-loop μ-loop
+part-put-refused-start c = omega arith
 
-part-put-refusal-end : tie.Need-part-put-refusal-end Inv-loop μ-loop
-part-put-refusal-end c = omega arith
+part-put-refused-end : tie.Need-part-put-refused-end Inv-loop μ-loop
+part-put-refused-end c = omega arith
 
-put-refusal-requires : tie.Need-put-refusal-requires Inv-loop μ-loop
-put-refusal-requires c κs = search needs
-
-add-filled-2 : tie.Need-add-filled-2 Inv-loop μ-loop
-add-filled-2 c = omega arith
+put-refused-requires : tie.Need-put-refused-requires Inv-loop μ-loop
+put-refused-requires c κs = search needs
 
 sub-left-2 : tie.Need-sub-left-2 Inv-loop μ-loop
 sub-left-2 c = omega arith
@@ -118,39 +125,39 @@ loop-again-2 : tie.Need-loop-again-2 Inv-loop μ-loop
 loop-again-2 c =
     let k = c .before .before .before .before .before in
     let e = k .before .before in
-    lays-over _ _ _ _ _ _ _ _ (inv e) (e .before .loop-test .taken) _ _ _ (sym (e .entry-at .ensures) ∙ k .refused .given .1) (c .before .before .put-refusal .ensures .words-are)
+    lays-over _ _ _ _ _ _ _ _ (inv e) (e .before .loop-test .taken) _ _ _ (sym (e .entry-at .ensures) ∙ k .refused .given .1) (c .before .before .put-refused .ensures)
 
 -- ---- a refusal that the walk ends at
 
 enum-known-refused-2 : tie.Need-enum-known-refused-2 Inv-loop μ-loop
 enum-known-refused-2 c = search needs
 
-mul-put-refusal-2 : tie.Need-mul-put-refusal-2 Inv-loop μ-loop
-mul-put-refusal-2 c = omega arith
+mul-put-refused-2 : tie.Need-mul-put-refused-2 Inv-loop μ-loop
+mul-put-refused-2 c = omega arith
 
-sub-put-refusal-2 : tie.Need-sub-put-refusal-2 Inv-loop μ-loop
-sub-put-refusal-2 c = omega arith
+sub-put-refused-2 : tie.Need-sub-put-refused-2 Inv-loop μ-loop
+sub-put-refused-2 c = omega arith
 
-part-put-refusal-start-2 : tie.Need-part-put-refusal-start-2 Inv-loop μ-loop
-part-put-refusal-start-2 c = omega arith
+part-put-refused-start-2 : tie.Need-part-put-refused-start-2 Inv-loop μ-loop
+part-put-refused-start-2 c = omega arith
 
-part-put-refusal-end-2 : tie.Need-part-put-refusal-end-2 Inv-loop μ-loop
-part-put-refusal-end-2 c = omega arith
+part-put-refused-end-2 : tie.Need-part-put-refused-end-2 Inv-loop μ-loop
+part-put-refused-end-2 c = omega arith
 
-put-refusal-requires-2 : tie.Need-put-refusal-requires-2 Inv-loop μ-loop
-put-refusal-requires-2 c κs = search needs
+put-refused-requires-2 : tie.Need-put-refused-requires-2 Inv-loop μ-loop
+put-refused-requires-2 c κs = search needs
 
 same-length : tie.Need-same-length Inv-loop μ-loop
 same-length c =
     let k = c .before .before .before .before .before in
     let e = k .before .before in
-    last-long _ _ _ _ _ _ _ _ (inv e) (e .before .loop-test .taken) _ _ (sym (e .entry-at .ensures) ∙ k .refused2 .given .1) (c .before .before .put-refusal2 .ensures .words-are)
+    last-long _ _ _ _ _ _ _ _ (inv e) (e .before .loop-test .taken) _ _ (sym (e .entry-at .ensures) ∙ k .refused2 .given .1) (c .before .before .put-refused2 .ensures)
 
 returns : tie.Need-returns Inv-loop μ-loop
 returns c =
     let k = c .before .before .before .before .before in
     let e = k .before .before in
-    lays-last _ _ _ _ _ _ _ _ (inv e) (e .before .loop-test .taken) _ _ (sym (e .entry-at .ensures) ∙ k .refused2 .given .1) (c .before .before .put-refusal2 .ensures .words-are)
+    lays-last _ _ _ _ _ _ _ _ (inv e) (e .before .loop-test .taken) _ _ (sym (e .entry-at .ensures) ∙ k .refused2 .given .1) (c .before .before .put-refused2 .ensures)
 
 -- ---- no entry, and none left
 
@@ -178,34 +185,34 @@ lay-entries-spec =
     Inv-loop
     μ-loop
     loop-holds
+    add-next
     entry-at-requires
     enum-known-measure
-    mul-put-frame
-    sub-put-frame
-    part-put-frame-start
-    part-put-frame-end
-    put-frame-requires
+    record-requires
+    mul-put-record
+    sub-put-record
+    part-put-record-start
+    part-put-record-end
+    put-record-requires
     add-payload-at
-    add-filled
     sub-left
     loop-less
     loop-again
     enum-known-refused
-    mul-put-refusal
-    sub-put-refusal
-    part-put-refusal-start
-    part-put-refusal-end
-    put-refusal-requires
-    add-filled-2
+    mul-put-refused
+    sub-put-refused
+    part-put-refused-start
+    part-put-refused-end
+    put-refused-requires
     sub-left-2
     loop-less-2
     loop-again-2
     enum-known-refused-2
-    mul-put-refusal-2
-    sub-put-refusal-2
-    part-put-refusal-start-2
-    part-put-refusal-end-2
-    put-refusal-requires-2
+    mul-put-refused-2
+    sub-put-refused-2
+    part-put-refused-start-2
+    part-put-refused-end-2
+    put-refused-requires-2
     same-length
     returns
     enum-told

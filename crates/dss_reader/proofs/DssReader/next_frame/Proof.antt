@@ -11,6 +11,9 @@ take-requires c κs = search needs
 enum-known-measure : tie.Need-enum-known-measure
 enum-known-measure c = search needs
 
+record-requires : tie.Need-record-requires
+record-requires c κs = search needs
+
 enum-known-refused : tie.Need-enum-known-refused
 enum-known-refused c = search needs
 
@@ -21,7 +24,8 @@ returns : tie.Need-returns
 returns c =
     let k = c .before .before .before .before .before .before in
     let a = k .before .before .before .before .args in
-    next-is (a .run .now) (a .self .position) (a .room .now) (Measures _) (k .take .result) _ (k .take .ensures) (c .before .before .measure .given .1)
+    rw (c .record .ensures)
+    (next-is (a .run .now) (a .self .position) (a .room .now) (Measures _) (k .take .result) _ (k .take .ensures) (c .before .before .measure .given .1))
 
 same-length-2 : tie.Need-same-length-2
 same-length-2 c = search needs
@@ -41,6 +45,7 @@ next-frame-spec =
     (tie.spec
     take-requires
     enum-known-measure
+    record-requires
     enum-known-refused
     left-at-requires
     same-length

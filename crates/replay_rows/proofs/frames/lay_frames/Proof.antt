@@ -27,20 +27,20 @@ mul-record c = search needs
 array-copy-out-record : tie.Need-array-copy-out-record Inv-loop μ-loop
 array-copy-out-record c = search needs
 
-mul-put-frame : tie.Need-mul-put-frame Inv-loop μ-loop
-mul-put-frame c = search needs
+mul-put-record : tie.Need-mul-put-record Inv-loop μ-loop
+mul-put-record c = search needs
 
-sub-put-frame : tie.Need-sub-put-frame Inv-loop μ-loop
-sub-put-frame c = search needs
+sub-put-record : tie.Need-sub-put-record Inv-loop μ-loop
+sub-put-record c = search needs
 
-part-put-frame-start : tie.Need-part-put-frame-start Inv-loop μ-loop
-part-put-frame-start c = search needs
+part-put-record-start : tie.Need-part-put-record-start Inv-loop μ-loop
+part-put-record-start c = search needs
 
-part-put-frame-end : tie.Need-part-put-frame-end Inv-loop μ-loop
-part-put-frame-end c = search needs
+part-put-record-end : tie.Need-part-put-record-end Inv-loop μ-loop
+part-put-record-end c = search needs
 
-put-frame-requires : tie.Need-put-frame-requires Inv-loop μ-loop
-put-frame-requires c κs = search needs
+put-record-requires : tie.Need-put-record-requires Inv-loop μ-loop
+put-record-requires c κs = search needs
 
 add-i : tie.Need-add-i Inv-loop μ-loop
 add-i c = search needs
@@ -68,11 +68,11 @@ lay-frames-spec =
     at-most-requires
     mul-record
     array-copy-out-record
-    mul-put-frame
-    sub-put-frame
-    part-put-frame-start
-    part-put-frame-end
-    put-frame-requires
+    mul-put-record
+    sub-put-record
+    part-put-record-start
+    part-put-record-end
+    put-record-requires
     add-i
     loop-less
     loop-again
