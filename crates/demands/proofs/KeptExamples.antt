@@ -355,7 +355,7 @@ no-reply-in-words κs =
 
 -- ---- a frame that may be taken: the first of two, and more bytes behind them
 
-abbrev taken : DssFrame
+abbrev pub taken : DssFrame
 taken = record {
   header = record { length = 6; «dss_type» = Reply; flags = record { chained = false; «continue_on_error» = false; «same_correlation» = false }; «correlation_id» = 7 };
   «payload_at» = 0;

@@ -8,7 +8,7 @@ use lib.ListN.{getD, replicate}
 use contract.Lifetimes.{Lfts}
 use Rattle.wire.specs.Bytes.{splice, laid}
 use Rattle.answer.specs.declared.Refusal.the-variants.{InvalidMagic}
-use Rattle.dss_head.specs.declared.DssType.the-variants.{Reply, Object}
+use Rattle.dss_head.specs.declared.DssType.the-variants.{Object}
 use Rattle.dss_frame.specs.Segments.{payloadOf, endOf, frameWalk, continuations, walkFuel}
 use Rattle.dss_frame.specs.Reading.{readAt, absorb, absorbFuel, look}
 use Rattle.dss_frame.specs.Frames.{allFrames, framesFuel}
@@ -26,7 +26,7 @@ use Rattle.gateway_row.specs.RecordBack.{cut}
 use Rattle.demands.specs.Table.{p8}
 use Rattle.demands.specs.Stretches.{FramesStood, EntriesStood, WordsStood, AnswerStood}
 use Rattle.demands.proofs.Kept.{next-read-stood, exported-next-read-stood, exported-all-read-stood, exported-salvage-stood}
-use Rattle.demands.proofs.KeptExamples.{lending}
+use Rattle.demands.proofs.KeptExamples.{lending, taken}
 use Rattle.demands.proofs.SalvageClauses.{lists}
 use Rattle.demands.proofs.StretchCalls.{all-stood}
 
@@ -52,16 +52,6 @@ unfolding splice laid salvaged salvageFuel readAt absorb absorbFuel look payload
 p8-salvaged κs =
     exported-salvage-stood (lending p8) (lending []) (lending (replicate 8 9)) [] (0 ∷ 0 ∷ 2 ∷ 0 ∷ 6 ∷ 0 ∷ 0 ∷ 0 ∷ []) (omega arith) κs (lending (replicate 21 9)) p8-row
     (record { answers = record { number-is = refl; words-are = refl }; room-is = refl; row-is = refl })
-
-abbrev p8-frame : DssFrame
-p8-frame = record {
-  header = record { length = 6; «dss_type» = Reply; flags = record { chained = false; «continue_on_error» = false; «same_correlation» = false }; «correlation_id» = 7 };
-  «payload_at» = 0;
-  «payload_len» = 0;
-  segments = 1;
-  at = 0;
-  end = 6;
-}
 
 -- ---- P9: (0, 14), by each call
 
@@ -104,10 +94,10 @@ unfolding splice laid readAt absorb absorbFuel look payloadOf endOf frameWalk co
 p9-handed κs =
     next-read-stood κs (standsAt 0) (standsAt 14) (lending p9) (lending (9 ∷ 9 ∷ [])) p9-frame p9-room (record { answers = refl; room-is = refl })
 
--- ---- the same in rows of structs, which are lent with what they then hold
+-- ---- the same in rows of structs, which are lent with what they then hold; `taken` is the record of P2, with which P8 begins
 
 abbrev p8-entries : List SalvageEntry
-p8-entries = record { entry = Framed p8-frame } ∷ record { entry = Refuses (record { why = InvalidMagic 0; place = 6 }) 6 6 } ∷ []
+p8-entries = record { entry = Framed taken } ∷ record { entry = Refuses (record { why = InvalidMagic 0; place = 6 }) 6 6 } ∷ []
 
 pub p8-listed : EntriesStood p8 [] 0 6 p8-entries
 unfolding splice salvaged salvageFuel readAt absorb absorbFuel look payloadOf endOf frameWalk continuations walkFuel salvagedBytes salvagedRow
