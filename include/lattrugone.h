@@ -32,7 +32,7 @@
  * words each, of objects and of parameters LATTRUGONE_WORDS. row_len over that is how many records have room, words beyond stay.
  *
  * docs/DIFFERENCES.md says where the answers differ from db2-proto's and from DRDA volume 3. bindings/c/example.c,
- * bindings/c/offsets.c and bindings/c/alter.c are examples to copy.
+ * bindings/c/exact.c, bindings/c/offsets.c and bindings/c/alter.c are examples to copy.
  */
 #ifndef LATTRUGONE_H
 #define LATTRUGONE_H
@@ -96,7 +96,8 @@ enum lattrugone_word {
     LATTRUGONE_WRITER_CORRELATION = 2,
     LATTRUGONE_WRITER_FILL = 3,
 
-    /* next_frame: the position behind the frame; and a frame's record in a row: where its payload starts in the room */
+    /* next_frame, measure_frame, take_frame: the position behind the frame; and a frame's record in a row: where its payload
+     * starts in the room */
     LATTRUGONE_FRAME_BEHIND = 1,
     LATTRUGONE_FRAME_PAYLOAD_AT = 1,
     /* both */
@@ -105,7 +106,7 @@ enum lattrugone_word {
     LATTRUGONE_FRAME_CORRELATION = 4,
     LATTRUGONE_FRAME_PAYLOAD_LEN = 5,
     LATTRUGONE_FRAME_SEGMENTS = 6,       /* one, and one for each continuation or absorbed segment */
-    /* next_frame */
+    /* next_frame, measure_frame, take_frame */
     LATTRUGONE_FRAME_FIRST = 7,          /* the frame's first byte, counted from the run's start as FRAME_BEHIND is */
 
     /* a record of frames or of salvage entries, a refusal's too: where it stood in the run, continuations and absorbed segments
@@ -150,6 +151,12 @@ enum lattrugone_continuation {
     LATTRUGONE_DEAD = 0,                 /* 0 and 1: the frame is NEVER_WHOLE */
     LATTRUGONE_LAST = 1,                 /* 2 to 7FFE, 8000 to FFFE: the last one */
     LATTRUGONE_FULL = 2                  /* 7FFF, FFFF: 32,767 bytes, and another must follow */
+};
+
+/* Which rules measure_frame and take_frame go by: the reader's, as next_frame, or salvage's. Any number but 0 is salvage's. */
+enum lattrugone_rules {
+    LATTRUGONE_RULES_READER = 0,
+    LATTRUGONE_RULES_SALVAGE = 1
 };
 
 /* ---- Heads ------------------------------------------------------------------------------------------------------------ */
@@ -278,6 +285,25 @@ uint8_t lattrugone_first_frame_end(const uint8_t *run, size_t run_len, uint64_t 
  * stand there, each by itself; where none was swallowed, it hands out this one. */
 uint8_t lattrugone_next_frame(const uint8_t *run, size_t run_len, size_t at, uint8_t *room, size_t room_len, uint64_t *words,
                               size_t words_len);
+
+/* Measure, then take: next_frame in two, for a caller that wants to know how much room a payload takes before it lends any. Both
+ * are told the rules (enum lattrugone_rules). By the reader's, take_frame is next_frame. Salvage's read one frame as salvage does: a
+ * head that is refused behind the frame closes it, so that the frame isn't lost and BAD_MAGIC, BAD_TYPE and LENGTH_TOO_SHORT
+ * are of the frame at `at` alone; and a continuation of length 0x7FFF is the frame's last, so that it swallows none. No refused frame
+ * is stepped over: that is for `salvage`.
+ * DONE: the words that next_frame has. The room that taking wants is words[FRAME_PAYLOAD_LEN] bytes, no more and no less; 0 of an
+ * empty payload, which can be taken into no room at all.
+ *
+ * measure_frame touches nothing but its words. In this order: all of next_frame's refusals, without NO_ROOM. */
+uint8_t lattrugone_measure_frame(uint8_t rules, const uint8_t *run, size_t run_len, size_t at, uint64_t *words,
+                                 size_t words_len);
+
+/* take_frame lays the payload down at the room's first byte. It reads the run again from `at` on, and is told nothing of what was
+ * measured: with another run, position or rules it answers by those. Lent the same three and a room of the measured length or a
+ * longer one, its answer is measure_frame's, word by word, and never NO_ROOM.
+ * In this order: all of next_frame's refusals, NO_ROOM at `at` with the measured length as the last. */
+uint8_t lattrugone_take_frame(uint8_t rules, const uint8_t *run, size_t run_len, size_t at, uint8_t *room, size_t room_len,
+                              uint64_t *words, size_t words_len);
 
 /* Reads frames from a position on until one isn't whole, yet or ever: payloads end to end from the room's first byte, in the row
  * a record of each: 0, words[FRAME_PAYLOAD_AT] and the others as next_frame has them, 0, words[RECORD_FIRST], words[RECORD_END].

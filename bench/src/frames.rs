@@ -1,22 +1,30 @@
-//! Frames: `next_frame`, `read_all_frames` and the writer.
+//! Frames: `next_frame`, measuring and taking, `read_all_frames` and the writer.
 
 use crate::clock::{fastest, timed, Lent};
 use crate::lines::{goal, Line};
 use crate::WORDS;
 use db2_proto::dss::{DssReader, DssWriter};
-use lattrugone::port::{self, RECORD_WORDS};
+use lattrugone::port::{self, Words, RECORD_WORDS};
 use std::hint::black_box;
 
-/// Where the frames of a run end and how long their payloads are, as both sides read them.
-fn ends(run: &[u8], room: &mut [u8]) -> Vec<(usize, usize)> {
+/// The number of the reader's rules.
+const READER: u8 = 0;
+
+/// A call of the port for one frame: told a run and a position, lent a room and words.
+trait Call: Fn(&[u8], usize, &mut [u8], &mut Words) -> u8 {}
+impl<F: Fn(&[u8], usize, &mut [u8], &mut Words) -> u8> Call for F {}
+
+/// Where the frames of a run end and how long their payloads are, as both sides read them. A call that takes lays the payloads down.
+fn ends(run: &[u8], room: &mut [u8], takes: bool, call: &impl Call) -> Vec<(usize, usize)> {
     let mut found = Vec::new();
     let mut reader = DssReader::new(run.to_vec());
     let mut words = WORDS;
     let mut at = 0;
     while let Some(frame) = reader.next_frame().unwrap() {
-        assert_eq!(port::next_frame(run, at, room, &mut words), 0);
+        assert_eq!(call(run, at, room, &mut words), 0);
         let [_, end, _, _, _, len, _, _] = words.map(|word| word as usize);
-        assert!(room[..len] == frame.payload);
+        assert_eq!(len, frame.payload.len());
+        assert!(!takes || room[..len] == frame.payload);
         assert_eq!(end + reader.remaining(), run.len());
         found.push((end, len));
         at = end;
@@ -24,9 +32,9 @@ fn ends(run: &[u8], room: &mut [u8]) -> Vec<(usize, usize)> {
     found
 }
 
-/// `next_frame` until a run has no more. A line's time is that of the whole run.
-pub fn next_frame(name: &str, repeats: usize, run: &[u8]) -> Line {
-    let found = ends(run, &mut vec![1; run.len()]);
+/// The Rust's `next_frame` until a run has no more, and a call of the port. A line's time is that of the whole run.
+fn frame_by_frame(name: &str, repeats: usize, run: &[u8], takes: bool, call: impl Call) -> Line {
+    let found = ends(run, &mut vec![1; run.len()], takes, &call);
     let largest = found.iter().map(|&(_, len)| len).max().unwrap();
     let mut to_port = Lent::new(run, largest);
     let mut to_memcpy = Lent::new(run, largest);
@@ -47,7 +55,7 @@ pub fn next_frame(name: &str, repeats: usize, run: &[u8]) -> Line {
                 let mut words = WORDS;
                 timed(|| {
                     let mut at = 0;
-                    while port::next_frame(run, at, room, &mut words) == 0 {
+                    while call(run, at, room, &mut words) == 0 {
                         at = words[1] as usize;
                         black_box(&room);
                     }
@@ -68,9 +76,44 @@ pub fn next_frame(name: &str, repeats: usize, run: &[u8]) -> Line {
         name: name.to_string(),
         rust,
         port,
-        memcpy: Some(memcpy),
+        memcpy: takes.then_some(memcpy),
         goal: goal(largest),
     }
+}
+
+/// `next_frame` on both sides.
+pub fn next_frame(name: &str, repeats: usize, run: &[u8]) -> Line {
+    frame_by_frame(name, repeats, run, true, |run, at, room, words| {
+        port::next_frame(run, at, room, words)
+    })
+}
+
+/// `measure_frame`. To know how long a payload is, the Rust's user reads it.
+pub fn measure(name: &str, repeats: usize, run: &[u8]) -> Line {
+    frame_by_frame(name, repeats, run, false, |run, at, _, words| {
+        port::measure_frame(READER, run, at, words)
+    })
+}
+
+/// `take_frame`.
+pub fn take(name: &str, repeats: usize, run: &[u8]) -> Line {
+    frame_by_frame(name, repeats, run, true, |run, at, room, words| {
+        port::take_frame(READER, run, at, room, words)
+    })
+}
+
+/// The one, then the other with just the room that was measured.
+pub fn measure_then_take(name: &str, repeats: usize, run: &[u8]) -> Line {
+    frame_by_frame(
+        name,
+        repeats,
+        run,
+        true,
+        |run, at, room, words| match port::measure_frame(READER, run, at, words) {
+            0 => port::take_frame(READER, run, at, &mut room[..words[5] as usize], words),
+            number => number,
+        },
+    )
 }
 
 /// `read_all_frames` on a run of small frames.

@@ -39,7 +39,7 @@ impl Line {
 
     pub fn print(&self) {
         print!(
-            "{:<42} Rust {:>9.2} us  port {:>9.2} us  ratio {:.2} (goal {:.1}: {})",
+            "{:<44} Rust {:>9.2} us  port {:>9.2} us  ratio {:.2} (goal {:.1}: {})",
             self.name,
             self.rust / 1000.0,
             self.port / 1000.0,

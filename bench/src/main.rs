@@ -15,7 +15,7 @@ mod lines;
 mod objects;
 mod sizes;
 
-use frames::{next_frame, read_all_frames, write};
+use frames::{measure, measure_then_take, next_frame, read_all_frames, take, write};
 use lattrugone::port::Words;
 use lines::{print_growth, Line, MB};
 use objects::{build, find, markers, object, parameters};
@@ -29,7 +29,7 @@ const WORDS: Words = [0; 8];
 /// A line's name, and what times it.
 type Plan = (&'static str, fn(&str, usize) -> Line);
 
-const PLAN: [Plan; 18] = [
+const PLAN: [Plan; 24] = [
     ("next_frame, 600 frames of 100 bytes", |name, n| {
         next_frame(name, n, &inputs::frames(600, 100))
     }),
@@ -41,6 +41,24 @@ const PLAN: [Plan; 18] = [
     }),
     ("next_frame, 4 MB", |name, n| {
         next_frame(name, n / 4, &inputs::frames(1, 4 * MB))
+    }),
+    ("measure_frame, 600 frames of 100 bytes", |name, n| {
+        measure(name, n, &inputs::frames(600, 100))
+    }),
+    ("measure_frame, 1 MB", |name, n| {
+        measure(name, n, &inputs::frames(1, MB))
+    }),
+    ("take_frame, 600 frames of 100 bytes", |name, n| {
+        take(name, n, &inputs::frames(600, 100))
+    }),
+    ("take_frame, 1 MB", |name, n| {
+        take(name, n, &inputs::frames(1, MB))
+    }),
+    ("measure, then take, 600 frames of 100 bytes", |name, n| {
+        measure_then_take(name, n, &inputs::frames(600, 100))
+    }),
+    ("measure, then take, 1 MB", |name, n| {
+        measure_then_take(name, n, &inputs::frames(1, MB))
     }),
     ("read_all_frames, 64 KiB of small frames", |name, n| {
         read_all_frames(name, n, &inputs::frames(618, 100))

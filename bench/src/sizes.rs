@@ -39,5 +39,5 @@ pub fn print_frame_size(name: &str, repeats: usize) {
         [&mut |_| calls(4 * MB), &mut |_| calls(usize::MAX)],
     );
     let [long, longest] = sides.map(|time| time / CALLS as f64);
-    println!("{name:<42} port {long:>9.2} ns, of 2^64 - 1 bytes {longest:.2} ns: one division each; stepping through the chunks, {steps} steps");
+    println!("{name:<44} port {long:>9.2} ns, of 2^64 - 1 bytes {longest:.2} ns: one division each; stepping through the chunks, {steps} steps");
 }

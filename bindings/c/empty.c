@@ -77,6 +77,12 @@ static void reader(void)
     ANSWERS(LATTRUGONE_NOT_WHOLE, lattrugone_first_frame_end(b, 0, w, n));
     ANSWERS(LATTRUGONE_NOT_WHOLE, lattrugone_next_frame(b, 0, 0, b, 0, w, n));
     ANSWERS(LATTRUGONE_OUT_OF_BOUNDS, lattrugone_next_frame(b, 0, 1, b, 0, w, n));
+    for (uint8_t rules = LATTRUGONE_RULES_READER; rules <= LATTRUGONE_RULES_SALVAGE; rules++) {
+        ANSWERS(LATTRUGONE_NOT_WHOLE, lattrugone_measure_frame(rules, b, 0, 0, w, n));
+        ANSWERS(LATTRUGONE_OUT_OF_BOUNDS, lattrugone_measure_frame(rules, b, 0, 1, w, n));
+        ANSWERS(LATTRUGONE_NOT_WHOLE, lattrugone_take_frame(rules, b, 0, 0, b, 0, w, n));
+        ANSWERS(LATTRUGONE_OUT_OF_BOUNDS, lattrugone_take_frame(rules, b, 0, 1, b, 0, w, n));
+    }
     ANSWERS(DONE, lattrugone_read_all_frames(b, 0, 0, b, 0, r, 0, w, n));
     ANSWERS(DONE, lattrugone_salvage(b, 0, b, 0, r, 0, w, n));
 }
@@ -120,6 +126,8 @@ static void empty_payloads(void)
     IS(DONE, lattrugone_build_dss_request(1, 0, NULL, 0, room, sizeof room, NULL, 0));
     IS(0, memcmp(room, frame, sizeof frame));
     IS(DONE, lattrugone_next_frame(frame, sizeof frame, 0, NULL, 0, NULL, 0));
+    IS(DONE, lattrugone_measure_frame(LATTRUGONE_RULES_READER, frame, sizeof frame, 0, NULL, 0));
+    IS(DONE, lattrugone_take_frame(LATTRUGONE_RULES_SALVAGE, frame, sizeof frame, 0, NULL, 0, NULL, 0));
     IS(DONE, lattrugone_build_ddm_object(0x200D, NULL, 0, room, sizeof room, NULL, 0));
     IS(0, memcmp(room, object, sizeof object));
     IS(DONE, lattrugone_object(object, sizeof object, 0, NULL, 0, NULL, 0));

@@ -2,10 +2,12 @@
 // or from target/staticlib of the repository that this crate stands in.
 use std::{env, path::PathBuf};
 
-const ARCHIVES: [&str; 9] = [
+const ARCHIVES: [&str; 11] = [
     "gateway",
     "gateway_writer",
     "gateway_reader",
+    "gateway_measure",
+    "gateway_take",
     "gateway_frames",
     "gateway_salvage",
     "gateway_object",

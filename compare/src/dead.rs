@@ -51,11 +51,13 @@ fn length(bytes: &[u8]) -> Option<(Length, usize)> {
 }
 
 /// The calls that must come to each kind, and whether they come to frames behind the first one.
-const CALLS: [(&str, bool); 9] = [
+const CALLS: [(&str, bool); 11] = [
     ("first_complete_frame_len", false),
     ("has_complete_frame", true),
     ("complete_frame_len", true),
     ("next_frame", true),
+    ("measure_frame", true),
+    ("take_frame", true),
     ("read_all_frames", true),
     ("salvage", true),
     ("DssReader::next_frame", true),

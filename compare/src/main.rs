@@ -10,6 +10,7 @@ mod five;
 mod head;
 mod lengths;
 mod lent;
+mod measure;
 mod names;
 mod port;
 mod reader;

@@ -9,6 +9,7 @@ mod captures;
 mod five;
 mod handed;
 mod heads;
+mod measured;
 mod objects;
 mod reader;
 mod seen;

@@ -4,9 +4,9 @@ pub use lattrugone::port::{
     as_i32, as_u16, as_u32, build_param_u16, builder_add_u16, builder_add_u32,
     builder_total_length, change_param, change_param_len, change_request, decide_continuation,
     decode_continuation_len, decode_dss_length, find_param, first_frame_end, flags_from_byte,
-    frame_end, frame_size, has_frame, head_parse, is_full_continuation_len, next_correlation_id,
-    next_frame, object, object_total_length, objects, param_step, parameters,
-    parse_marshaled_length, remaining, strip_markers, type_from_byte,
+    frame_end, frame_size, has_frame, head_parse, is_full_continuation_len, measure_frame,
+    next_correlation_id, next_frame, object, object_total_length, objects, param_step, parameters,
+    parse_marshaled_length, remaining, strip_markers, take_frame, type_from_byte,
 };
 
 /// What a head is written from: its numbers, and the bytes of its type and its flags.

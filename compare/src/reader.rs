@@ -7,7 +7,7 @@ mod case;
 pub mod long;
 pub mod record;
 pub mod runs;
-mod rust;
+pub mod rust;
 pub mod short;
 pub mod walk;
 

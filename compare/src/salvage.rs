@@ -7,6 +7,8 @@ mod runs;
 
 use crate::answers::{done, refused, Words};
 use crate::lent::Lent;
+use crate::measure::Pair;
+use crate::reader::rust::Read;
 use crate::rows::{frame_words, record, Call, Listed, Rows, RECORD_WORDS};
 use crate::{port, By, Chance, Tally};
 use model::{Entry, Frame, Head, Salvage, Stood};
@@ -19,6 +21,9 @@ pub fn compare(tally: &mut Tally, chance: &mut Chance, cases: u64) {
     let mut held = Held {
         run: Lent::new(MOST),
         rows: Rows::new(MOST, ENTRIES),
+        room: Lent::new(MOST),
+        words: Lent::new(64),
+        turn: 0,
     };
     runs::paper(tally, &mut held);
     runs::few_words(tally, &mut held);
@@ -40,6 +45,10 @@ pub fn compare(tally: &mut Tally, chance: &mut Chance, cases: u64) {
 struct Held {
     run: Lent<u8>,
     rows: Rows,
+    /// For one entry by itself, another one in each run.
+    room: Lent<u8>,
+    words: Lent<u64>,
+    turn: usize,
 }
 
 impl Held {
@@ -60,7 +69,24 @@ impl Held {
             words,
             make: |_, loan| port::salvage(loan),
         };
-        self.hold_to(tally, run, call, &listed)
+        self.hold_to(tally, run, call, &listed);
+        self.one(tally, run, words, &salvage);
+    }
+
+    /// One entry of a run in turn, or what stands at its tail, measured and taken by itself: a frame, why it is refused, or why it
+    /// isn't whole.
+    fn one(&mut self, tally: &mut Tally, run: &[u8], words: usize, salvage: &Salvage) {
+        self.turn += 1;
+        let entry = salvage.entries.get(self.turn % (salvage.entries.len() + 1));
+        let at = entry.map_or(salvage.tail, |stood| stood.from);
+        let mut pair = Pair {
+            run: &mut self.run,
+            bytes: run,
+            room: &mut self.room,
+            words: &mut self.words,
+            lent_words: words,
+        };
+        pair.salvage(tally, at, &Read::salvaged(run, at), self.turn);
     }
 
     /// Holds the port to a list.

@@ -99,6 +99,7 @@
 //!         Other(_) => 5,
 //!         LengthTooShort(_) => 7,
 //!         LengthTooLarge(_) => 8,
+//!         NoRoom { .. } => 9,
 //!         Incomplete => 1,
 //!         NotFound => 11,
 //!         DeadContinuation { .. } => 16,

@@ -1,8 +1,9 @@
 use crate::port::Words;
 use std::fmt;
 
-/// Why something wasn't read or changed: db2-proto's cases that its modules dss and ddm give, two for what stops it there, and
-/// five of what is added, [`crate::dss::change_request`] and [`crate::ddm::DdmObject::with_param`].
+/// Why something wasn't read or changed: db2-proto's cases that its modules dss and ddm give, two for what stops it there, and six
+/// of what is added: five of [`crate::dss::change_request`] and [`crate::ddm::DdmObject::with_param`], and one of
+/// [`crate::dss::DssReader::take_into`].
 #[derive(Debug, Clone, PartialEq)]
 pub enum ProtoError {
     /// A head's third byte isn't D0.
@@ -38,6 +39,11 @@ pub enum ProtoError {
     },
     /// The changed frame would end in a full chunk: the reader wouldn't find it whole.
     UnreadableSize,
+    /// The room that is lent is shorter than the payload that is to be taken.
+    NoRoom {
+        /// So many bytes are needed.
+        needed: usize,
+    },
     /// An inline DDM length below 4, or an extended DDM header below 4: db2-proto's text.
     Other(String),
 }
@@ -72,6 +78,7 @@ impl fmt::Display for ProtoError {
             ProtoError::NotFound => write!(f, "no such parameter"),
             ProtoError::UnsoundData { place } => write!(f, "unsound data at byte {place}"),
             ProtoError::UnreadableSize => write!(f, "changed frame would end in a full chunk"),
+            ProtoError::NoRoom { needed } => write!(f, "no room: {needed} bytes are needed"),
             ProtoError::Other(text) => write!(f, "{text}"),
         }
     }
@@ -123,6 +130,9 @@ impl Refusal {
             )),
             7 => ProtoError::LengthTooShort(first as u16),
             8 => ProtoError::LengthTooLarge(first as usize),
+            9 => ProtoError::NoRoom {
+                needed: first as usize,
+            },
             11 => ProtoError::NotFound,
             16 => ProtoError::DeadContinuation {
                 place: place as usize,
@@ -131,7 +141,7 @@ impl Refusal {
                 place: place as usize,
             },
             18 => ProtoError::UnreadableSize,
-            // No function of this crate is refused with another number: it lends the room and keeps its own positions.
+            // No function of this crate is refused with another number: it keeps its own positions.
             _ => ProtoError::Other(format!("refused with number {number} at {place}")),
         }
     }

@@ -34,6 +34,8 @@
 //!
 //! - [`dss::salvage`] hands out all that can be read of a damaged run.
 //! - [`dss::DssReader::dead_at`] says whether a frame that isn't whole can still become so, or where it can't.
+//! - [`dss::DssReader::measure`] and [`dss::DssReader::take_into`]: how much room a frame's payload takes, before any is lent, and the
+//!   payload in room of the caller's own; by the reader's rules or by salvage's.
 //! - [`dss::DssReader::position`], and [`dss::DssReader::next_frame_counted`], which says of how many segments a frame is.
 //! - [`dss::change_request`] changes one parameter of a request already built, [`ddm::DdmObject::with_param`] one of an object.
 //! - [`port`]: the archives' functions as they are, for a caller that lends its own room and wants nothing allocated.

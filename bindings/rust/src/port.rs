@@ -107,6 +107,10 @@ port! {
     fn first_frame_end = lattrugone_first_frame_end(run: &[u8], words: &mut [u64]) -> u8;
     /// The frame at the position.
     fn next_frame = lattrugone_next_frame(run: &[u8], at: usize, room: &mut [u8], words: &mut [u64]) -> u8;
+    /// The frame at the position, by the rules of a number (0 the reader's, any other salvage's): measured, and nothing laid down.
+    fn measure_frame = lattrugone_measure_frame(rules: u8, run: &[u8], at: usize, words: &mut [u64]) -> u8;
+    /// The same frame, its payload laid down at the room's first byte.
+    fn take_frame = lattrugone_take_frame(rules: u8, run: &[u8], at: usize, room: &mut [u8], words: &mut [u64]) -> u8;
     /// All frames from the position on.
     fn read_all_frames = lattrugone_read_all_frames(run: &[u8], at: usize, room: &mut [u8], row: &mut [u64], words: &mut [u64]) -> u8;
     /// The salvage reading.

@@ -1,7 +1,8 @@
 //! What lattrugone adds to db2-proto's names: its `salvage` and where its entries stood held to the model, `next_frame_counted`,
-//! `dead_at`, `position` and `span` to the walk and to what remains, and frames of type 5 to the Rust's requests.
+//! `dead_at`, `position` and `span` to the walk and to what remains, frames of type 5 to the Rust's requests, and measuring and taking
+//! (measured.rs).
 use super::seen::Head;
-use super::Names;
+use super::{measured, Names};
 use crate::answers::Bytes;
 use crate::reader::long::each_dead;
 use crate::reader::walk::{walk, Walked};
@@ -71,6 +72,7 @@ fn no_reply(names: &mut Names, chance: &mut Chance) {
 }
 
 fn hold(names: &mut Names, run: &[u8]) {
+    measured::hold(names, run);
     let (port, due) = (by_port(run), by_model(run));
     names
         .tally

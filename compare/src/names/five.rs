@@ -1,7 +1,7 @@
 //! What the reader comes to where the Rust refuses a type 5: by the model, as it is seen of either crate's values.
 use super::seen::{Case, Frame, Seen, Why};
 use crate::answers::Bytes;
-use crate::salvage::model::{self, Refusal};
+use crate::salvage::model::{self, Refusal, Rules};
 use db2_proto::ProtoError;
 
 fn seen(frame: model::Frame) -> Frame {
@@ -34,10 +34,10 @@ fn why(refusal: &Refusal) -> Why {
 
 /// The frame at a place, and where reading goes on: behind it, or at the head that is refused.
 pub fn next(run: &[u8], at: usize) -> (Seen<Option<Frame>>, usize) {
-    match model::next_frame(run, at) {
-        None => (Ok(None), at),
-        Some(Ok((frame, end))) => (Ok(Some(seen(frame))), end),
-        Some(Err(refusal)) => (Err(why(&refusal)), refusal.place),
+    match model::next_frame(run, at, Rules::Reader) {
+        Ok((frame, end)) => (Ok(Some(seen(frame))), end),
+        Err(refusal) if refusal.is_not_whole() => (Ok(None), at),
+        Err(refusal) => (Err(why(&refusal)), refusal.place),
     }
 }
 

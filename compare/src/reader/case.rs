@@ -3,6 +3,7 @@ use super::all::{listed, to_end, ByFrame};
 use super::rust::{end, next, position, Came, Read};
 use crate::answers::{answered, expected, refused, Answer};
 use crate::lent::Lent;
+use crate::measure::Pair;
 use crate::rows::{Call, Listed, Rows, RECORD_WORDS};
 use crate::{port, shown, By, Tally};
 use db2_proto::dss::DssReader;
@@ -185,6 +186,27 @@ impl Case<'_> {
             _ if need > 0 => self.next_in(tally, at, read, need - 1),
             _ => (),
         }
+        self.pair(tally, at, read, turn);
+    }
+
+    /// The same frame measured and taken, by the reader's rules; and what stands there by salvage's. Beyond the run both are refused.
+    fn pair(&mut self, tally: &mut Tally, at: usize, read: &Read, turn: usize) {
+        let salvaged = match at <= self.run.len() {
+            true => Read::salvaged(self.run, at),
+            false => Read::refused(beyond(at, self.run.len())),
+        };
+        let Held {
+            run, room, words, ..
+        } = &mut *self.held;
+        let mut pair = Pair {
+            run,
+            bytes: self.run,
+            room,
+            words,
+            lent_words: self.words,
+        };
+        pair.reader(tally, at, read, turn);
+        pair.salvage(tally, at, &salvaged, turn);
     }
 
     fn next_in(&mut self, tally: &mut Tally, at: usize, read: &Read, room: usize) {

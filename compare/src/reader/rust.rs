@@ -3,7 +3,8 @@ use super::walk::{walk, Walked};
 use super::SHORT;
 use crate::answers::{done, expected, of_error, refused, Answer, Words};
 use crate::rows::frame_words;
-use crate::salvage::{self, model};
+use crate::salvage;
+use crate::salvage::model::{self, Refusal, Rules};
 use crate::stops::unless_stopped;
 use crate::{five, shown, By, Tally};
 use db2_proto::dss::{DssFrame, DssReader};
@@ -39,13 +40,10 @@ pub fn head_of(frame: &DssFrame) -> [u64; 3] {
 }
 
 impl Read {
-    /// What the call comes to from a position on in a room of so many bytes: 9 comes last.
-    pub fn answer(&self, at: usize, room: usize, words: usize) -> Answer {
+    /// What measuring comes to at a position.
+    pub fn measured(&self, at: usize, words: usize) -> Answer {
         match &self.came {
             Came::Refused(answer) => expected(*answer, words),
-            Came::Frame { payload, .. } if room < payload.len() => {
-                expected(refused(9, at as u64, &[payload.len() as u64, 0]), words)
-            }
             Came::Frame {
                 head,
                 payload,
@@ -55,8 +53,19 @@ impl Read {
                 let mut answer = frame_words(*end, *head, payload.len(), *segments);
                 // W-201: its first byte.
                 answer[7] = at as u64;
-                expected(answer, words).laying(payload)
+                expected(answer, words)
             }
+        }
+    }
+
+    /// What the call comes to from a position on in a room of so many bytes: 9 comes last.
+    pub fn answer(&self, at: usize, room: usize, words: usize) -> Answer {
+        match &self.came {
+            Came::Refused(_) => self.measured(at, words),
+            Came::Frame { payload, .. } if room < payload.len() => {
+                expected(refused(9, at as u64, &[payload.len() as u64, 0]), words)
+            }
+            Came::Frame { payload, .. } => self.measured(at, words).laying(payload),
         }
     }
 
@@ -75,6 +84,35 @@ impl Read {
             by: By::Rust,
         }
     }
+
+    /// The frame at a position of a run by salvage's rules, which the Rust doesn't have: the model's.
+    pub fn salvaged(run: &[u8], at: usize) -> Read {
+        let came = match model::next_frame(run, at, Rules::Salvage) {
+            Ok((frame, end)) => of_model(frame, end),
+            Err(refusal) => Came::Refused(of_refusal(&refusal, 0)),
+        };
+        let by = By::Model;
+        Read { came, by }
+    }
+}
+
+/// A frame of the model's, which ends at a place.
+fn of_model(frame: model::Frame, end: usize) -> Came {
+    Came::Frame {
+        head: salvage::head_words(&frame.head),
+        payload: frame.payload,
+        end,
+        segments: frame.segments as u64,
+    }
+}
+
+/// A refusal of the model's, of bytes that are a run's from a place on.
+fn of_refusal(refusal: &Refusal, from: usize) -> Words {
+    let values: &[u64] = match refusal.is_not_whole() {
+        true => &[],
+        false => &[refusal.value as u64],
+    };
+    refused(refusal.number as u64, (from + refusal.place) as u64, values)
 }
 
 // ---- one frame
@@ -164,28 +202,22 @@ pub fn next(tally: &mut Tally, reader: &mut DssReader, bytes: &[u8], from: usize
 /// What the model reads at a place of these bytes, as the walk says it, where it then stands, and in full; nothing where the frame
 /// isn't whole.
 fn modelled(bytes: &[u8], from: usize, at: usize) -> Option<(Walked, usize, Came)> {
-    Some(match model::next_frame(bytes, at)? {
+    Some(match model::next_frame(bytes, at, Rules::Reader) {
         Ok((frame, end)) => {
             let segments = frame.segments as u64;
-            let came = Came::Frame {
-                head: salvage::head_words(&frame.head),
-                payload: frame.payload,
-                end: from + end,
-                segments,
-            };
-            (Walked::Frame { segments }, end, came)
+            (Walked::Frame { segments }, end, of_model(frame, from + end))
         }
+        Err(refusal) if refusal.is_not_whole() => return None,
         Err(refusal) => {
-            let (place, value) = (refusal.place, refusal.value as u64);
+            let place = refusal.place;
             let walks = match refusal.number {
                 7 => Walked::TooShort {
-                    length: value,
+                    length: refusal.value as u64,
                     behind: place - at,
                 },
                 _ => Walked::BadHead,
             };
-            let answer = refused(refusal.number as u64, (from + place) as u64, &[value]);
-            (walks, place, Came::Refused(answer))
+            (walks, place, Came::Refused(of_refusal(&refusal, from)))
         }
     })
 }

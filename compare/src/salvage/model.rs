@@ -1,5 +1,7 @@
 //! The salvage reading as document 01 has it, and document 02 where it changes that: their sentences in document 01's order, each
-//! above what does it. Reading one frame by the reader's rules is here too, for what the Rust refuses and the port reads. It is written from that text alone, shares nothing with the port or with the rest of the comparison, and is meant to be read beside the document.
+//! above what does it. Reading one frame is here by either's rules: by salvage's for measuring and taking (W-208), by the reader's for
+//! what the Rust refuses and the port reads. It is written from that text alone, shares nothing with the port or with the rest of
+//! the comparison, and is meant to be read beside the document.
 
 /// What a salvage reading hands out: entries in order, and the tail's place.
 pub struct Salvage {
@@ -27,7 +29,7 @@ pub struct Frame {
     pub segments: usize,
 }
 
-/// A refusal: its number, its place, and the one value that 2, 3 and 7 carry.
+/// A refusal: its number, its place, and the one value that 2, 3 and 7 carry, 0 of 1 and 16.
 pub struct Refusal {
     pub number: usize,
     pub place: usize,
@@ -39,6 +41,13 @@ fn refusal(number: usize, place: usize, value: usize) -> Refusal {
         number,
         place,
         value,
+    }
+}
+
+impl Refusal {
+    /// 1 or 16.
+    pub fn is_not_whole(&self) -> bool {
+        self.number == 1 || self.number == 16
     }
 }
 
@@ -59,7 +68,7 @@ const NO_REPLY: u8 = 5;
 
 /// The reader's rules, or salvage's.
 #[derive(Clone, Copy, PartialEq)]
-enum Rules {
+pub enum Rules {
     Reader,
     Salvage,
 }
@@ -107,51 +116,53 @@ struct Own {
     end: usize,
 }
 
-/// "The frame's end." Nothing where it isn't whole.
-fn own(run: &[u8], place: usize, rules: Rules) -> Option<Own> {
+/// "The frame's end." Where it isn't whole, document 02, W-203: "Answer 1 is to split. 16 says a continuation length of 0 or 1 was
+/// reached in an otherwise present frame, with the place of that length; 1 remains for all else."
+fn own(run: &[u8], place: usize, rules: Rules) -> Result<Own, Refusal> {
+    let not_yet = Err(refusal(1, place, 0));
     let left = run.len() - place;
     // "Fewer than six bytes: 1."
     if left < 6 {
-        return None;
+        return not_yet;
     }
     let raw = number(run, place);
     // "Raw not 0xFFFF: whole when that many bytes are there."
     if raw != 0xFFFF {
         if left < raw {
-            return None;
+            return not_yet;
         }
         let end = place + raw;
         let parts = vec![(place + 6, end)];
-        return Some(Own { parts, end });
+        return Ok(Own { parts, end });
     }
     // "Raw 0xFFFF: 32,767 bytes, then continuations."
     if left < 32_767 {
-        return None;
+        return not_yet;
     }
     let mut parts = vec![(place + 6, place + 32_767)];
     let mut at = place + 32_767;
     loop {
         let left = run.len() - at;
         if left < 2 {
-            return None;
+            return not_yet;
         }
         // "The decision by raw continuation length: 0 and 1 are never whole; 2 to 0x7FFE and 0x8000 to 0xFFFE are the last;
         // 0x7FFF and 0xFFFF take 32,767 bytes and another must follow." Document 02, W-205: "In salvage 0x7FFF becomes a last
         // continuation".
         let raw = number(run, at);
         let (takes, last) = match raw {
-            0 | 1 => return None,
+            0 | 1 => return Err(refusal(16, at, 0)),
             0xFFFF => (32_767, false),
             0x7FFF if rules == Rules::Reader => (32_767, false),
             _ => (raw, true),
         };
         if left < takes {
-            return None;
+            return not_yet;
         }
         parts.push((at + 2, at + takes));
         at += takes;
         if last {
-            return Some(Own { parts, end: at });
+            return Ok(Own { parts, end: at });
         }
     }
 }
@@ -248,12 +259,13 @@ fn read(
     Ok((frame, at))
 }
 
-/// "`next_frame`, order: 10, 1, then head 2, 3, 7", at a place of the run: a frame and its end, or a refusal; nothing where the
-/// frame isn't whole.
-pub fn next_frame(run: &[u8], place: usize) -> Option<Result<(Frame, usize), Refusal>> {
-    let own = own(run, place, Rules::Reader)?;
-    let head = own_head(run, place);
-    Some(head.and_then(|head| read(run, place, head, own, Rules::Reader)))
+/// "`next_frame`, order: 10, 1, then head 2, 3, 7", at a place of the run: a frame and its end, or a refusal. W-203: "16 takes 1's
+/// place in the order." W-208: measuring and taking "are told which rules hold, the reader's or salvage's", and refuse "in the
+/// present order".
+pub fn next_frame(run: &[u8], place: usize, rules: Rules) -> Result<(Frame, usize), Refusal> {
+    let own = own(run, place, rules)?;
+    let head = own_head(run, place)?;
+    read(run, place, head, own, rules)
 }
 
 // ---- "Salvage reading"
@@ -265,7 +277,7 @@ pub fn salvage(run: &[u8]) -> Salvage {
     loop {
         // "Not whole ends the walk with no entry. The tail's place, where the walk ended, is given". Document 02, W-203, has two
         // answers for not whole and leaves that as it is: "`read_all_frames` and salvage end at either".
-        let Some(own) = own(run, place, Rules::Salvage) else {
+        let Ok(own) = own(run, place, Rules::Salvage) else {
             break;
         };
         let own_end = own.end;

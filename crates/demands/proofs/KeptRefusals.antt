@@ -26,8 +26,11 @@ use Rattle.dss_frame.specs.Records.{payloadsOf}
 use Rattle.dss_frame.specs.Salvage.{salvaged}
 use Rattle.dss_frame.specs.Written.{Sent, written}
 use Rattle.dss_frame.specs.declared.DssFrame.{DssFrame}
+use Rattle.dss_frame.specs.declared.Rules.{Rules}
 use Rattle.dss_frame.specs.declared.Rules.the-variants.{Reader}
-use Rattle.dss_take.specs.Take.{roomRead}
+use Rattle.dss_measure.specs.declared.Measured.{Measured}
+use Rattle.dss_measure.specs.declared.Measured.the-variants.{Frame as Taken, Refused as NotTaken}
+use Rattle.dss_take.specs.Take.{takenOf, roomRead, Takes}
 use Rattle.dss_writer.specs.Writer.{wroteBy, Writes}
 use Rattle.dss_writer.specs.declared.DssWriter.{DssWriter}
 use Rattle.dss_writer.specs.declared.Wrote.{Wrote}
@@ -45,6 +48,8 @@ use Rattle.gateway_words.specs.Words.{refusalWords, Answered}
 use Rattle.gateway_row.specs.RowWords.{places}
 use Rattle.gateway_writer.specs.WriterWords.{wroteWords, wroteTyped, roomTyped, Sends}
 use Rattle.gateway_reader.specs.ReaderWords.{frameWords, ReadsFrame}
+use Rattle.gateway_measure.specs.MeasureWords.{measuredWords}
+use Rattle.gateway_take.specs.TakeWords.{TakesFrame}
 use Rattle.gateway_frames.specs.FramesWords.{framesWords, rowWords, ReadsAllFrames}
 use Rattle.gateway_salvage.specs.SalvageWords.{salvagedWords, SalvagesInWords}
 use Rattle.demands.proofs.LongerAll.{all-final}
@@ -89,6 +94,18 @@ pub reads-kept : (s : List ℕ) (p : ℕ) (room : List ℕ) (y : Refused) (d : D
 reads-kept s p room y d after q =
     let k = kept-reading s p room (readAt Reader s p) y d (q .answers) in
     (q .room-is ∙ k .0, k .1)
+
+-- ---- taking one frame, under either's rules
+
+kept-taking : (s : List ℕ) (p : ℕ) (room : List ℕ) (x : Read) (y : Refused) → NotTaken y ≡ takenOf s p (length room) x → roomRead s room x ≡ room
+kept-taking s p room (refused r) y e = refl
+kept-taking s p room (frame f) y e =
+    by (leb (length (payloadOf s (f .segments))) (length room))
+    (λ t. let k = e ∙ pick-yes _ _ t in let z : _≡_ {A = ℕ} 0 1 = cc in absurd (omega arith))
+    (λ t. laid-kept room 0 (payloadOf s (f .segments)) (omega (arith, leb-false (length (payloadOf s (f .segments))) (length room) t)))
+
+pub takes-kept : (rules : Rules) (s : List ℕ) (p : ℕ) (room : List ℕ) (y : Refused) (after : List ℕ) → Takes rules s p room (NotTaken y) after → after ≡ room
+takes-kept rules s p room y after q = q .room-is ∙ kept-taking s p room (readAt rules s p) y (q .answers)
 
 -- ---- reading all frames
 
@@ -165,6 +182,10 @@ module _ (words : List ℕ) (n : ℕ) (answer : List ℕ) (nz : n ≡ 0 → ⊥)
   of-read (Hands f d) a = absurd (nz (a .number-is))
   of-read (NotRead y d) a = record { y = y; d = d; is = refl; said = of-words y a }
 
+  of-taken : (p : ℕ) (x : Measured) → Answered (measuredWords p x) words n answer → record { y : Refused; is : x ≡ NotTaken y; said : RefusedInWords words n answer }
+  of-taken p (Taken m) a = absurd (nz (a .number-is))
+  of-taken p (NotTaken y) a = record { y = y; is = refl; said = of-words y a }
+
   of-frames : (x : FramesRead) → Answered (framesWords x) words n answer → record { y : Refused; d : DssReader; is : x ≡ NoneRead y d; said : RefusedInWords words n answer }
   of-frames (Frames c b d) a = absurd (nz (a .number-is))
   of-frames (NoneRead y d) a = record { y = y; d = d; is = refl; said = of-words y a }
@@ -182,6 +203,11 @@ module _ (words : List ℕ) (n : ℕ) (answer : List ℕ) (nz : n ≡ 0 → ⊥)
   frame-kept s p room after q =
       let x = of-read (given s p (length room) (readAt Reader s p)) (q .answers) in
       (x .said, q .room-is ∙ kept-reading s p room (readAt Reader s p) (x .y) (x .d) (sym (x .is)) .0)
+
+  pub taken-kept : (rules : Rules) (s : List ℕ) (p : ℕ) (room after : List ℕ) → TakesFrame rules s p room words n after answer → RefusedInWords words n answer × (after ≡ room)
+  taken-kept rules s p room after q =
+      let x = of-taken p (takenOf s p (length room) (readAt rules s p)) (q .answers) in
+      (x .said, q .room-is ∙ kept-taking s p room (readAt rules s p) (x .y) (sym (x .is)))
 
   pub frames-kept : (s : List ℕ) (p : ℕ) (room row room-after row-after : List ℕ) → ReadsAllFrames s p room row words n room-after row-after answer
       → RefusedInWords words n answer × (room-after ≡ room) × (row-after ≡ row)

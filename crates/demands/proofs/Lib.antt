@@ -35,6 +35,7 @@ pub mod KeptMeaning
 pub mod KeptFrame
 pub mod KeptRows
 pub mod StretchCalls
+pub mod MeasureTake
 pub mod SalvageClauses
 pub mod FullRun
 pub mod KeptLayouts
@@ -44,6 +45,7 @@ pub mod FourTypesCalls
 pub mod Kept
 pub mod KeptExamples
 pub mod StretchExamples
+pub mod MeasureTakeExamples
 pub mod DeadExamples
 pub mod AsReadExamples
 pub mod KeptRefusals

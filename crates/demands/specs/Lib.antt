@@ -9,5 +9,6 @@ pub mod AsRead
 pub mod Longer
 pub mod Mending
 pub mod Stretches
+pub mod MeasureTake
 pub mod DeadEdges
 pub mod Limits

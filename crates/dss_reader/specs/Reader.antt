@@ -14,6 +14,9 @@ use Rattle.dss_frame.specs.Frames.{AllRead, frames, refusedAll, allFrames}
 use Rattle.dss_frame.specs.Records.{recordOf, recordsOf, payloadsOf}
 use Rattle.dss_frame.specs.declared.DssFrame.{DssFrame}
 use Rattle.dss_frame.specs.declared.Rules.the-variants.{Reader}
+use Rattle.dss_measure.specs.Measure.{measuredRecord}
+use Rattle.dss_measure.specs.declared.Measured.{Measured}
+use Rattle.dss_measure.specs.declared.Measured.the-variants.{Frame as Measures, Refused as NotMeasured}
 use Rattle.dss_take.specs.Take.{roomRead}
 use Rattle.dss_reader.specs.declared.DssReader.{DssReader}
 use Rattle.dss_reader.specs.declared.FrameEnd.{FrameEnd}
@@ -58,6 +61,11 @@ given s p size (frame f) =
 pub record NextFrame (s : List ℕ) (p : ℕ) (room : List ℕ) (r : FrameRead) (after : List ℕ) : Type 0 where
   pub answers : r ≡ given s p (length room) (readAt Reader s p)
   pub room-is : after ≡ roomRead s room (readAt Reader s p)
+
+-- W-208: the reader's answer, of what taking the frame at p answered. That is `next_frame`'s, of what was taken under the reader's rules
+abbrev pub readOf : ℕ → Measured → FrameRead
+readOf p (Measures m) = Gives (measuredRecord p 0 m) (standsAt (m .end))
+readOf p (NotMeasured r) = NotRead r (leftAt p r)
 
 -- ---- all frames
 

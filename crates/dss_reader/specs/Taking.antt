@@ -22,19 +22,13 @@ use Rattle.dss_laws.specs.AllFrames.{frames-step, frames-more}
 use Rattle.dss_measure.specs.declared.FrameMeasure.{FrameMeasure}
 use Rattle.dss_measure.specs.declared.Measured.{Measured}
 use Rattle.dss_measure.specs.declared.Measured.the-variants.{Frame as Measures, Refused as NotMeasured}
-use Rattle.dss_measure.specs.Measure.{measureOf, measuredRecord, measuredOf, measuredAt}
+use Rattle.dss_measure.specs.Measure.{measureOf, measuredOf, measuredAt}
 use Rattle.dss_take.specs.Take.{takenOf, roomRead, Takes}
 use Rattle.dss_reader.specs.declared.DssReader.{DssReader}
-use Rattle.dss_reader.specs.declared.FrameRead.{FrameRead}
-use Rattle.dss_reader.specs.declared.FrameRead.the-variants.{Frame as Gives, Refused as NotRead}
-use Rattle.dss_reader.specs.Reader.{standsAt, leftAt, given, NextFrame}
+use Rattle.dss_reader.specs.declared.FrameRead.the-variants.{Refused as NotRead}
+use Rattle.dss_reader.specs.Reader.{leftAt, given, readOf, NextFrame}
 
 -- ---- one frame
-
--- the reader's answer, of what taking answered at p
-abbrev pub readOf : ℕ → Measured → FrameRead
-readOf p (Measures m) = Gives (measuredRecord p 0 m) (standsAt (m .end))
-readOf p (NotMeasured r) = NotRead r (leftAt p r)
 
 module _ (s : List ℕ) (p : ℕ) where
   read-is : (size : ℕ) (r : Read) → readOf p (takenOf s p size r) ≡ given s p size r
@@ -44,6 +38,7 @@ module _ (s : List ℕ) (p : ℕ) where
       (λ t. ap (readOf p) (pick-yes _ _ t) ∙ sym (pick-yes _ _ t))
       (λ t. ap (readOf p) (pick-no _ _ t) ∙ sym (pick-no _ _ t))
 
+  -- W-208: what was taken is what `next_frame` answers
   pub next-is : (room : List ℕ) (m r : Measured) (after : List ℕ) → Takes Reader s p room r after → r ≡ m → NextFrame s p room (readOf p m) after
   next-is room m r after w e =
       record {

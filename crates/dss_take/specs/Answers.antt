@@ -16,8 +16,8 @@ use Rattle.dss_frame.specs.Reading.{Frame, Read, frame, refused, readAt}
 use Rattle.dss_measure.specs.declared.FrameMeasure.{FrameMeasure}
 use Rattle.dss_measure.specs.declared.Measured.the-variants.{Frame as Gives, Refused as NotMeasured}
 use Rattle.dss_measure.specs.Measure.{measureOf, measuredOf, measuredAt}
-use Rattle.dss_take.specs.Take.{takenOf, roomRead, Takes}
-use Rattle.dss_take.specs.Payloads.{payloadAt, Fits, Typed, payload-is}
+use Rattle.dss_take.specs.Take.{takenOf, roomRead, payloadAt, Takes}
+use Rattle.dss_take.specs.Payloads.{Fits, Typed, payload-is}
 
 -- a frame is read, and this is its measure
 pub record Measures (rules : Rules) (s : List ℕ) (p : ℕ) (m : FrameMeasure) : Type 0 where

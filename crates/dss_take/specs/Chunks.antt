@@ -18,7 +18,8 @@ use Rattle.dss_frame.specs.Segments.{Segment, whole, dead, continuation, step, 
 use Rattle.dss_laws.specs.Continuations.{continuations-short, continuations-step, continuations-last, continuations-last-short, continuations-full, continuations-full-short}
 use Rattle.dss_measure.specs.Walks.{last-two}
 use Rattle.dss_laws.specs.Ends.{payload-one}
-use Rattle.dss_take.specs.Payloads.{payloadAt, Fits, payload-is, Next}
+use Rattle.dss_take.specs.Take.{payloadAt}
+use Rattle.dss_take.specs.Payloads.{Fits, payload-is, Next}
 use Rattle.dss_take.specs.Frames.{Behind, behind-whole, not-whole, Several, several}
 
 -- the walk from q on is whole, and what is left of a payload is that of its segments

@@ -11,19 +11,11 @@ use Rattle.wire.specs.Splice.{splice-none, splice-length, splice-written, splic
 use Rattle.dss_head.specs.declared.DssType.{DssType}
 use Rattle.dss_frame.specs.declared.Rules.{Rules}
 use Rattle.dss_frame.specs.Segments.{Segment, bytesOf, payloadOf}
-use Rattle.dss_frame.specs.Reading.{Frame, Read, frame, refused, readAt}
+use Rattle.dss_frame.specs.Reading.{Frame, frame, readAt}
 use Rattle.wire.specs.Laws.{part-length}
+use Rattle.dss_take.specs.Take.{readBytes, payloadAt}
 
 -- ---- the payload of what is read
-
--- none of a refusal
-abbrev pub readBytes : List ℕ → Read → List ℕ
-readBytes s (frame f) = payloadOf s (f .segments)
-readBytes s (refused r) = []
-
-unfoldable pub payloadAt : Rules → List ℕ → ℕ → List ℕ
-unfolding payloadOf readAt
-payloadAt rules s p = readBytes s (readAt rules s p)
 
 -- a frame is read, and its payload fits the room
 pub record Fits (rules : Rules) (s : List ℕ) (p : ℕ) (room : List ℕ) : Type 0 where

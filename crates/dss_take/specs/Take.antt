@@ -1,7 +1,7 @@
 -- What taking a frame answers, and what the lent room then holds: document 01, "Reading", "Last comes 9, position unmoved".
 use Prim.Native.Nat.{ℕ}
 use mathlib.Core.Path.{_≡_}
-use mathlib.Core.List.{List}
+use mathlib.Core.List.{List, []}
 use lib.Dec.{leb}
 use lib.ListN.{length}
 use Rattle.wire.specs.Bytes.{pick, laid}
@@ -23,6 +23,16 @@ takenOf s p size (frame f) =
 abbrev pub roomRead : List ℕ → List ℕ → Read → List ℕ
 roomRead s room (frame f) = laid room 0 (payloadOf s (f .segments))
 roomRead s room (refused r) = room
+
+-- the payload of what is read, none of a refusal
+abbrev pub readBytes : List ℕ → Read → List ℕ
+readBytes s (frame f) = payloadOf s (f .segments)
+readBytes s (refused r) = []
+
+-- under whose rules, of what run, from what place on
+unfoldable pub payloadAt : Rules → List ℕ → ℕ → List ℕ
+unfolding payloadOf readAt
+payloadAt rules s p = readBytes s (readAt rules s p)
 
 pub record Takes (rules : Rules) (s : List ℕ) (p : ℕ) (room : List ℕ) (r : Measured) (after : List ℕ) : Type 0 where
   pub answers : r ≡ takenOf s p (length room) (readAt rules s p)

@@ -29,7 +29,8 @@ use Rattle.dss_measure.specs.declared.Look.the-variants.{Finished, Absorbs, Ref
 use Rattle.dss_measure.specs.declared.Measured.the-variants.{Frame as Gives, Refused as NotMeasured}
 use Rattle.dss_measure.specs.Measure.{lookedOf, sofarOf, measureOf, measuredOf}
 use Rattle.dss_measure.specs.Absorbing.{behindAt, Absorbing, absorbing-finished, absorbing-refused, absorbing-there}
-use Rattle.dss_take.specs.Payloads.{payloadAt, Fits, Typed, payload-is, Next}
+use Rattle.dss_take.specs.Take.{payloadAt}
+use Rattle.dss_take.specs.Payloads.{Fits, Typed, payload-is, Next}
 use Rattle.dss_take.specs.Frames.{Single, single}
 
 -- ---- what a look absorbs

@@ -1,8 +1,8 @@
 //! The reader.
-use super::DssHeader;
+use super::{DssHeader, FrameMeasure, Rules};
 use crate::error::Refusal;
 use crate::loan::{ask, Loan};
-use crate::port::{self, Record, RECORD_WORDS, WORDS};
+use crate::port::{self, Record, Words, RECORD_WORDS, WORDS};
 use crate::{ProtoError, Result};
 use std::fmt::{self, Debug, Formatter};
 use std::ops::Range;
@@ -152,18 +152,84 @@ impl DssReader {
         });
         match read {
             Ok(loan) => {
-                let [_, behind, .., segments, first] = loan.words.map(|word| word as usize);
-                self.position = behind;
+                let taken = self.stands_behind(&loan.words)?;
                 let frame = DssFrame {
-                    header: DssHeader::of_frame(&loan.words)?,
+                    header: taken.header,
                     payload: loan.room,
-                    span: first..behind,
+                    span: taken.span,
                 };
-                Ok(Some((frame, segments)))
+                Ok(Some((frame, taken.segments)))
             }
             Err(refusal) if refusal.is_not_whole() => Ok(None),
             Err(refusal) => Err(self.refused(refusal)),
         }
+    }
+
+    /// The next frame without its payload, by the reader's rules or by salvage's, or none where it isn't whole: added. Nothing is
+    /// copied, and the position stays, also with an error. [`FrameMeasure::payload_len`] is the room that
+    /// [`DssReader::take_into`] needs: lent that much, it isn't refused.
+    ///
+    /// ```
+    /// use lattrugone::dss::{build_dss_object, DssReader, Rules};
+    ///
+    /// # fn main() -> lattrugone::Result<()> {
+    /// let mut run = build_dss_object(1, false, b"station 0412");
+    /// run.extend(build_dss_object(2, false, &[0xF0; 40000]));
+    /// let mut reader = DssReader::new(run);
+    /// let mut payloads = Vec::new();
+    /// while let Some(measure) = reader.measure(Rules::Reader)? {
+    ///     let mut payload = vec![0; measure.payload_len];
+    ///     reader.take_into(Rules::Reader, &mut payload)?;
+    ///     payloads.push(payload);
+    /// }
+    /// assert_eq!(payloads, [b"station 0412".to_vec(), vec![0xF0; 40000]]);
+    /// # Ok(())
+    /// # }
+    /// ```
+    pub fn measure(&self, rules: Rules) -> Result<Option<FrameMeasure>> {
+        let (run, at) = (&self.buffer, self.position);
+        match ask(|words| port::measure_frame(rules.number(), run, at, words)) {
+            Ok(words) => FrameMeasure::of_words(&words).map(Some),
+            Err(refusal) if refusal.is_not_whole() => Ok(None),
+            Err(refusal) => Err(refusal.error()),
+        }
+    }
+
+    /// Lays the next frame's payload down at the start of a room, by the reader's rules or by salvage's, and stands behind the frame
+    /// then; none where it isn't whole: added. The rest of the room stays, and with none or an error all of it does. By the
+    /// reader's rules it is [`DssReader::next_frame`] without its allocation, errors and position alike; the one error more is
+    /// [`ProtoError::NoRoom`], the last of all, with which the position stays. It reads the frame itself, whatever was measured
+    /// before.
+    ///
+    /// ```
+    /// use lattrugone::dss::{build_dss_object, DssReader, Rules};
+    /// use lattrugone::ProtoError;
+    ///
+    /// # fn main() -> lattrugone::Result<()> {
+    /// let mut reader = DssReader::new(build_dss_object(1, false, b"0412"));
+    /// let mut room = [0xFF; 6];
+    /// let short = reader.take_into(Rules::Reader, &mut room[..3]);
+    /// assert_eq!(short.unwrap_err(), ProtoError::NoRoom { needed: 4 });
+    /// let taken = reader.take_into(Rules::Reader, &mut room)?.expect("a whole frame");
+    /// assert_eq!((taken.payload_len, taken.span), (4, 0..10));
+    /// assert_eq!(&room, b"0412\xFF\xFF");
+    /// assert_eq!(reader.remaining(), 0);
+    /// # Ok(())
+    /// # }
+    /// ```
+    pub fn take_into(&mut self, rules: Rules, room: &mut [u8]) -> Result<Option<FrameMeasure>> {
+        let (run, at) = (&self.buffer, self.position);
+        match ask(|words| port::take_frame(rules.number(), run, at, room, words)) {
+            Ok(words) => self.stands_behind(&words).map(Some),
+            Err(refusal) if refusal.is_not_whole() => Ok(None),
+            Err(refusal) => Err(self.refused(refusal)),
+        }
+    }
+
+    fn stands_behind(&mut self, words: &Words) -> Result<FrameMeasure> {
+        let taken = FrameMeasure::of_words(words)?;
+        self.position = taken.span.end;
+        Ok(taken)
     }
 
     /// All frames up to the first that isn't whole. Where one is refused, all are.

@@ -13,7 +13,8 @@ use Rattle.dss_frame.specs.Reading.{look, startsExtended}
 use Rattle.dss_measure.specs.declared.Look.{Look}
 use Rattle.dss_measure.specs.declared.Look.the-variants.{Finished}
 use Rattle.dss_measure.specs.Measure.{lookedOf}
-use Rattle.dss_take.specs.Payloads.{payloadAt, payload-fits, Next, Laying, laying-none, laying-on, laying-all, laying-room, laying-more}
+use Rattle.dss_take.specs.Take.{payloadAt}
+use Rattle.dss_take.specs.Payloads.{payload-fits, Next, Laying, laying-none, laying-on, laying-all, laying-room, laying-more}
 use Rattle.dss_take.specs.Taking.{Taking, taking-first, taking-finished, taking-refused, taking-absorbs}
 use Rattle.dss_take.proofs.copy_absorbed.Statement.{statement}
 use Rattle.dss_take.proofs.copy_absorbed.Tie as tie

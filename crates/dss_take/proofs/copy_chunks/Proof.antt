@@ -11,7 +11,8 @@ use Rattle.wire.specs.Splice.{splice-length}
 use Rattle.dss_head.specs.declared.Chunk.{Chunk}
 use Rattle.dss_head.specs.declared.Chunk.the-variants.{Dead, Last, Full}
 use Rattle.dss_frame.specs.Rules.{chunkUnder}
-use Rattle.dss_take.specs.Payloads.{payloadAt, payload-fits, Next, Laying, laying-none, laying-on, laying-last, laying-room, laying-more}
+use Rattle.dss_take.specs.Take.{payloadAt}
+use Rattle.dss_take.specs.Payloads.{payload-fits, Next, Laying, laying-none, laying-on, laying-last, laying-room, laying-more}
 use Rattle.dss_take.specs.Chunks.{Walking, walking-dead, last-left, last-next, full-next, chunks-first}
 use Rattle.dss_take.proofs.copy_chunks.Statement.{statement}
 use Rattle.dss_take.proofs.copy_chunks.Tie as tie

@@ -1,0 +1,314 @@
+-- W-208: that measuring and taking belong together, of the definitions and over the records that the contracts cite.
+use Prim.Native.Nat.{ℕ, _+_, _≤_}
+use native.Mathlib.Omega.{arith}
+use native.Mathlib.Decide.{decLe}
+use mathlib.Core.Path.{_≡_, refl, sym, ap, subst, _∙_}
+use mathlib.Core.Logic.{inl, inr}
+use mathlib.Core.List.{List, []}
+use lib.Dec.{leb}
+use lib.ListN.{length, getD, take}
+use borrow.Author.Tests.{le-leb, lt-leb}
+use Rattle.wire.specs.Bytes.{splice}
+use Rattle.wire.specs.Laws.{pick-yes, pick-no}
+use Rattle.wire.specs.Splice.{laid-fits, laid-kept, splice-written}
+use Rattle.answer.specs.Numbers.{numberOf}
+use Rattle.answer.specs.Rooms.{noRoom, outOfBounds}
+use Rattle.answer.specs.declared.Refused.{Refused}
+use Rattle.dss_frame.specs.declared.Rules.{Rules}
+use Rattle.dss_frame.specs.declared.Rules.the-variants.{Reader}
+use Rattle.dss_frame.specs.Segments.{payloadOf}
+use Rattle.dss_frame.specs.Reading.{Read, frame, refused, readAt}
+use Rattle.dss_measure.specs.declared.FrameMeasure.{FrameMeasure}
+use Rattle.dss_measure.specs.declared.Measured.{Measured}
+use Rattle.dss_measure.specs.declared.Measured.the-variants.{Frame as Gives, Refused as Refuses}
+use Rattle.dss_measure.specs.Measure.{measureOf, measuredOf, measuredAt}
+use Rattle.dss_row.specs.Measures.{measured-not}
+use Rattle.dss_take.specs.Take.{takenOf, roomRead, readBytes, payloadAt, Takes}
+use Rattle.dss_reader.specs.Reader.{given, readOf, NextFrame}
+use Rattle.dss_reader.specs.Taking.{next-is}
+use Rattle.dss_reader.specs.declared.FrameRead.{FrameRead}
+use Rattle.dss_reader.specs.declared.FrameRead.the-variants.{Frame as Hands, Refused as NotRead}
+use Rattle.gateway_words.specs.Words.{Answered}
+use Rattle.gateway_row.specs.RecordBack.{numbered}
+use Rattle.gateway_reader.specs.ReaderWords.{frameWords, ReadsFrame}
+use Rattle.gateway_measure.specs.MeasureWords.{measuredWords}
+use Rattle.gateway_take.specs.TakeWords.{TakesFrame}
+use Rattle.demands.specs.Longer.{Final}
+use Rattle.demands.specs.MeasureTake.{TakenAs, MeasuresThenTakes, ByRunAlone, TakenInWords, ByRunAloneInWords}
+use Rattle.demands.proofs.Longer.{refusals-stay}
+use Rattle.demands.proofs.KeptFrame.{answer-says}
+
+pub gives-refuses : (m : FrameMeasure) (why : Refused) → Gives m ≡ Refuses why → ⊥
+gives-refuses m why e = let z : _≡_ {A = ℕ} 0 1 = cc in omega arith
+
+pub gives-same : (m m′ : FrameMeasure) → Gives m ≡ Gives m′ → m ≡ m′
+gives-same m m′ e = cc
+
+-- ---- measuring gives all but 9
+
+final-not-9 : (r : Refused) → Final r → numberOf (r .why) ≡ 9 → ⊥
+final-not-9 r (inl e) k = omega arith
+final-not-9 r (inr (inl e)) k = omega arith
+final-not-9 r (inr (inr (inl e))) k = omega arith
+final-not-9 r (inr (inr (inr e))) k = omega arith
+
+-- beyond the run it is 10
+beyond-not-9 : (rules : Rules) (s : List ℕ) (p : ℕ) (r : Refused) → (p ≤ length s → ⊥) → readAt rules s p ≡ refused r → numberOf (r .why) ≡ 9 → ⊥
+unfolding readAt
+beyond-not-9 rules s p r h e k =
+    let z : refused (outOfBounds p (length s)) ≡ refused r = sym (pick-no _ _ (lt-leb p (length s) (omega arith))) ∙ e in
+    let y : outOfBounds p (length s) ≡ r = cc in
+    let n : 10 ≡ numberOf (r .why) = ap (λ (x : Refused). numberOf (x .why)) y in
+    omega arith
+
+pub never-9 : (rules : Rules) (s : List ℕ) (p : ℕ) (r : Refused) → measuredAt rules s p ≡ Refuses r → numberOf (r .why) ≡ 9 → ⊥
+never-9 rules s p r m k =
+    let e : readAt rules s p ≡ refused r = measured-not rules s p r m in
+    elim (decLe p (length s)) [
+      | yes h ↦ final-not-9 r (refusals-stay rules s [] p r h e (λ n. omega arith) .0) k
+      | no h ↦ beyond-not-9 rules s p r h e k
+    ]
+
+-- ---- taking, of what was measured
+
+as-read : (s : List ℕ) (p : ℕ) (room : List ℕ) (x : Read) (q r : Measured) (after : List ℕ) → q ≡ measuredOf s p x → r ≡ takenOf s p (length room) x → after ≡ roomRead s room x
+    → TakenAs q (readBytes s x) p room r after
+as-read s p room (refused y) q r after a b c =
+    record {
+      refused = λ why e. (b ∙ sym a ∙ e, c);
+      counted = λ m e. absurd (gives-refuses m y (sym e ∙ a));
+      enough = λ m e h. absurd (gives-refuses m y (sym e ∙ a));
+      short = λ m e h. absurd (gives-refuses m y (sym e ∙ a));
+    }
+as-read s p room (frame f) q r after a b c =
+    record {
+      refused = λ why e. absurd (gives-refuses (measureOf s p f) why (sym a ∙ e));
+      counted = λ m e. long m e;
+      enough = λ m e h. (
+        b ∙ pick-yes _ _ (le-leb (length (payloadOf s (f .segments))) (length room) (omega (arith, long m e))) ∙ sym a ∙ e,
+        c ∙ laid-fits room 0 (payloadOf s (f .segments)) (omega (arith, long m e)),
+      );
+      short = λ m e h. (
+        b
+            ∙ pick-no _ _ (lt-leb (length (payloadOf s (f .segments))) (length room) (omega (arith, long m e)))
+            ∙ ap (λ (n : ℕ). Refuses (noRoom p n 0)) (long m e),
+        c ∙ laid-kept room 0 (payloadOf s (f .segments)) (omega (arith, long m e)),
+      );
+    }
+  where
+    long : (m : FrameMeasure) → q ≡ Gives m → length (payloadOf s (f .segments)) ≡ m .«payload_len»
+    long m e = ap (λ (x : FrameMeasure). x .«payload_len») (gives-same (measureOf s p f) m (sym a ∙ e))
+
+pub taken-as : (rules : Rules) (s : List ℕ) (p : ℕ) (room : List ℕ) (q r : Measured) (after : List ℕ) → q ≡ measuredAt rules s p → Takes rules s p room r after
+    → TakenAs q (payloadAt rules s p) p room r after
+unfolding measuredAt payloadAt
+taken-as rules s p room q r after a w = as-read s p room (readAt rules s p) q r after a (w .answers) (w .room-is)
+
+pub measures-then-takes : MeasuresThenTakes measuredAt (λ rules s p room. takenOf s p (length room) (readAt rules s p)) (λ rules s p room. roomRead s room (readAt rules s p))
+measures-then-takes =
+    record {
+      all-but-9 = never-9;
+      payload = payloadAt;
+      takes = λ rules s p room. taken-as rules s p room _ _ _ refl (record { answers = refl; room-is = refl });
+    }
+
+-- the same of what the contract of `measure` allows
+pub measured-not-9 : (rules : Rules) (s : List ℕ) (p : ℕ) (why : Refused) → Refuses why ≡ measuredAt rules s p → numberOf (why .why) ≡ 9 → ⊥
+measured-not-9 rules s p why e k = never-9 rules s p why (sym e) k
+
+-- a room of the measured length isn't refused
+pub not-refused : (rules : Rules) (s : List ℕ) (p : ℕ) (room : List ℕ) (m : FrameMeasure) (why : Refused) (after : List ℕ) → length room ≡ m .«payload_len» → Gives m ≡ measuredAt rules s p
+    → Takes rules s p room (Refuses why) after → ⊥
+not-refused rules s p room m why after e a w = gives-refuses m why (sym (taken-as rules s p room (Gives m) (Refuses why) after a w .enough m refl (omega arith) .0))
+
+-- ---- two rooms
+
+-- what was measured, of what was taken: the frame that is handed out, or a refusal that isn't 9
+module _ {q : Measured} {payload : List ℕ} {p : ℕ} {room : List ℕ} {r : Measured} {after : List ℕ} (t : TakenAs q payload p room r after) where
+  pub measured-first : {ℓ : Type 0} → ((why : Refused) → q ≡ Refuses why → r ≡ Refuses why → ℓ)
+      → ((m : FrameMeasure) → q ≡ Gives m → r ≡ Gives m → take (m .«payload_len») after ≡ payload → ℓ)
+      → ((m : FrameMeasure) → q ≡ Gives m → r ≡ Refuses (noRoom p (m .«payload_len») 0) → ℓ)
+      → ℓ
+  measured-first {ℓ} none done short = go q refl
+    where
+      fits : (m : FrameMeasure) → q ≡ Gives m → m .«payload_len» ≤ length room → take (m .«payload_len») after ≡ payload
+      fits m e h =
+          let z : m .«payload_len» ≡ 0 + length payload = omega (arith, t .counted m e) in
+          ap (take (m .«payload_len»)) (t .enough m e h .1) ∙ ap (λ (n : ℕ). take n (splice room 0 payload)) z ∙ splice-written room 0 payload (omega arith)
+
+      go : (x : Measured) → q ≡ x → ℓ
+      go (Refuses why) e = none why e (t .refused why e .0)
+      go (Gives m) e =
+          elim (decLe (m .«payload_len») (length room)) [
+            | yes h ↦ done m e (t .enough m e h .0) (fits m e h)
+            | no h ↦ short m e (t .short m e (omega arith) .0)
+          ]
+
+-- 9 is given as 9
+nine : (p n : ℕ) (why : Refused) → Refuses (noRoom p n 0) ≡ Refuses why → numberOf (why .why) ≡ 9
+nine p n why e = let z : noRoom p n 0 ≡ why = cc in sym (ap (λ (x : Refused). numberOf (x .why)) z)
+
+refuses-same : (why why′ : Refused) → Refuses why ≡ Refuses why′ → why ≡ why′
+refuses-same why why′ e = cc
+
+module _ {q : Measured} {payload : List ℕ} {p : ℕ} {room room′ : List ℕ} {r r′ : Measured} {after after′ : List ℕ} (not-9 : (why : Refused) → q ≡ Refuses why → numberOf (why .why) ≡ 9 → ⊥)
+    (t : TakenAs q payload p room r after) (t′ : TakenAs q payload p room′ r′ after′) where
+  -- both are done
+  same-done : (m m′ : FrameMeasure) → r ≡ Gives m → r′ ≡ Gives m′ → (m ≡ m′) × (take (m .«payload_len») after ≡ take (m .«payload_len») after′)
+  same-done m m′ e e′ =
+      measured-first t (λ why a b. absurd (gives-refuses m why (sym e ∙ b)))
+      (λ n a b c. measured-first t′ (λ why a′ b′. absurd (gives-refuses m′ why (sym e′ ∙ b′)))
+      (λ n′ a′ b′ c′.
+      let i : n ≡ m = gives-same n m (sym b ∙ e) in
+      let j : n′ ≡ m′ = gives-same n′ m′ (sym b′ ∙ e′) in
+      let k : n ≡ n′ = gives-same n n′ (sym a ∙ a′) in (
+        sym i ∙ k ∙ j,
+        ap (λ (x : FrameMeasure). take (x .«payload_len») after) (sym i) ∙ c ∙ sym c′ ∙ ap (λ (x : FrameMeasure). take (x .«payload_len») after′) (sym k ∙ i),
+      ))
+      (λ n′ a′ b′. absurd (gives-refuses m′ _ (sym e′ ∙ b′))))
+      (λ n a b. absurd (gives-refuses m _ (sym e ∙ b)))
+
+  pub by-run-alone : ByRunAlone p r after r′ after′
+  by-run-alone =
+      record {
+        done = same-done;
+        refused = λ why e k.
+            measured-first t (λ y a b. t′ .refused y a .0 ∙ sym b ∙ e) (λ n a b c. absurd (gives-refuses n why (sym b ∙ e)))
+            (λ n a b. absurd (k (nine p (n .«payload_len») why (sym b ∙ e))));
+        need = λ why m e e′.
+            measured-first t (λ y a b. absurd (gives-refuses m y (sym e′ ∙ t′ .refused y a .0))) (λ n a b c. absurd (gives-refuses n why (sym b ∙ e)))
+            (λ n a b. measured-first t′ (λ y a′ b′. absurd (gives-refuses m y (sym e′ ∙ b′)))
+            (λ n′ a′ b′ c′.
+            let k : n ≡ m = gives-same n m (sym a ∙ a′ ∙ sym b′ ∙ e′) in
+            refuses-same why _ (sym e ∙ b) ∙ ap (λ (x : FrameMeasure). noRoom p (x .«payload_len») 0) k)
+            (λ n′ a′ b′. absurd (gives-refuses m _ (sym e′ ∙ b′))));
+      }
+
+pub runs-alone : (rules : Rules) (s : List ℕ) (p : ℕ) (room room′ : List ℕ) (r r′ : Measured) (after after′ : List ℕ) → Takes rules s p room r after → Takes rules s p room′ r′ after′
+    → ByRunAlone p r after r′ after′
+runs-alone rules s p room room′ r r′ after after′ w w′ =
+    by-run-alone (λ why e k. never-9 rules s p why e k) (taken-as rules s p room (measuredAt rules s p) r after refl w) (taken-as rules s p room′ (measuredAt rules s p) r′ after′ refl w′)
+
+-- ---- in words
+
+says-eight : (p : ℕ) (q : Measured) → length (measuredWords p q) ≡ 8
+says-eight p (Gives m) = refl
+says-eight p (Refuses why) = refl
+
+-- what the words of an answer say: 0 of a frame, another number of a refusal
+module _ (p : ℕ) {words : List ℕ} {n : ℕ} {a : List ℕ} (h : 8 ≤ length words) where
+  said : (q : Measured) → Answered (measuredWords p q) words n a → take 8 a ≡ measuredWords p q
+  said q w = answer-says (says-eight p q) h w
+
+  said-as : (q x : Measured) → q ≡ x → Answered (measuredWords p q) words n a → Answered (measuredWords p x) words n a
+  said-as q x e w = subst (λ (y : Measured). Answered (measuredWords p y) words n a) e w
+
+not-0 : (p : ℕ) (why : Refused) (words : List ℕ) (n : ℕ) (a : List ℕ) → Answered (measuredWords p (Refuses why)) words n a → n ≡ 0 → ⊥
+not-0 p why words n a w e = omega (arith, numbered (why .why), w .number-is)
+
+module _ (p : ℕ) {words words′ : List ℕ} {n n′ : ℕ} {a a′ after : List ℕ} (h : 8 ≤ length words) (h′ : 8 ≤ length words′) where
+  pub taken-in-words : {payload room : List ℕ} (q r : Measured) → TakenAs q payload p room r after → Answered (measuredWords p q) words n a → Answered (measuredWords p r) words′ n′ a′
+      → TakenInWords payload p n (take 8 a) room n′ (take 8 a′) after
+  taken-in-words {payload} {room} (Refuses why) r t w w′ =
+      let x = t .refused why refl in
+      let v : Answered (measuredWords p (Refuses why)) words′ n′ a′ = said-as p h′ r (Refuses why) (x .0) w′ in
+      record {
+        refused = λ z. (v .number-is ∙ sym (w .number-is), said p h′ (Refuses why) v ∙ sym (said p h (Refuses why) w), x .1);
+        counted = λ e. absurd (not-0 p why words n a w e);
+        enough = λ e i. absurd (not-0 p why words n a w e);
+        short = λ e i. absurd (not-0 p why words n a w e);
+      }
+  taken-in-words {payload} {room} (Gives m) r t w w′ =
+      let s : take 8 a ≡ measuredWords p (Gives m) = said p h (Gives m) w in
+      let k : getD (take 8 a) 5 0 ≡ m .«payload_len» = ap (λ (l : List ℕ). getD l 5 0) s in
+      record {
+        refused = λ z. absurd (z (w .number-is));
+        counted = λ e. t .counted m refl ∙ sym k;
+        enough = λ e i.
+            let x = t .enough m refl (omega arith) in
+            let v : Answered (measuredWords p (Gives m)) words′ n′ a′ = said-as p h′ r (Gives m) (x .0) w′ in
+            (v .number-is, said p h′ (Gives m) v ∙ sym s, x .1);
+        short = λ e i.
+            let x = t .short m refl (omega arith) in
+            let y : Refused = noRoom p (m .«payload_len») 0 in
+            let v : Answered (measuredWords p (Refuses y)) words′ n′ a′ = said-as p h′ r (Refuses y) (x .0) w′ in
+            (v .number-is, said p h′ (Refuses y) v ∙ ap (λ (b : ℕ). measuredWords p (Refuses (noRoom p b 0))) (sym k), x .1);
+      }
+
+  pub by-run-in-words : {after′ : List ℕ} (r r′ : Measured) → ByRunAlone p r after r′ after′ → Answered (measuredWords p r) words n a → Answered (measuredWords p r′) words′ n′ a′
+      → ByRunAloneInWords p n (take 8 a) after n′ (take 8 a′) after′
+  by-run-in-words {after′} (Refuses why) r′ t w w′ =
+      record {
+        done = λ e e′. absurd (not-0 p why words n a w e);
+        refused = λ z k.
+            let x = t .refused why refl (λ e. k (w .number-is ∙ e)) in
+            let v : Answered (measuredWords p (Refuses why)) words′ n′ a′ = said-as p h′ r′ (Refuses why) x w′ in
+            (v .number-is ∙ sym (w .number-is), said p h′ (Refuses why) v ∙ sym (said p h (Refuses why) w));
+        need = λ e e′. of-other r′ t w′ e′;
+      }
+    where
+      of-other : (x : Measured) → ByRunAlone p (Refuses why) after x after′ → Answered (measuredWords p x) words′ n′ a′ → n′ ≡ 0 → take 8 a ≡ measuredWords p (Refuses (noRoom p (getD (take 8 a′) 5 0) 0))
+      of-other (Refuses y) u v e′ = absurd (not-0 p y words′ n′ a′ v e′)
+      of-other (Gives m) u v e′ =
+          let k : getD (take 8 a′) 5 0 ≡ m .«payload_len» = ap (λ (l : List ℕ). getD l 5 0) (said p h′ (Gives m) v) in
+          said p h (Refuses why) w ∙ ap (λ (y : Refused). measuredWords p (Refuses y)) (u .need why m refl refl ∙ ap (λ (b : ℕ). noRoom p b 0) (sym k))
+  by-run-in-words {after′} (Gives m) r′ t w w′ =
+      record {
+        done = λ e e′. of-other r′ t w′ e′;
+        refused = λ z k. absurd (z (w .number-is));
+        need = λ e e′. absurd (omega (arith, w .number-is));
+      }
+    where
+      of-other : (x : Measured) → ByRunAlone p (Gives m) after x after′ → Answered (measuredWords p x) words′ n′ a′ → n′ ≡ 0
+          → (take 8 a ≡ take 8 a′) × (take (getD (take 8 a) 5 0) after ≡ take (getD (take 8 a) 5 0) after′)
+      of-other (Refuses y) u v e′ = absurd (not-0 p y words′ n′ a′ v e′)
+      of-other (Gives m′) u v e′ =
+          let d = u .done m m′ refl refl in
+          let s : take 8 a ≡ measuredWords p (Gives m) = said p h (Gives m) w in
+          let k : getD (take 8 a) 5 0 ≡ m .«payload_len» = ap (λ (l : List ℕ). getD l 5 0) s in (
+            s ∙ ap (λ (x : FrameMeasure). measuredWords p (Gives x)) (d .0) ∙ sym (said p h′ (Gives m′) v),
+            ap (λ (b : ℕ). take b after) k ∙ d .1 ∙ ap (λ (b : ℕ). take b after′) (sym k),
+          )
+
+-- over what the contracts of the exported functions allow
+module _ (rules : Rules) (s : List ℕ) (p : ℕ) where
+  pub words-not-9 : (words : List ℕ) (n : ℕ) (a : List ℕ) → Answered (measuredWords p (measuredAt rules s p)) words n a → n ≡ 9 → ⊥
+  words-not-9 words n a w k = go (measuredAt rules s p) refl w
+    where
+      go : (q : Measured) → measuredAt rules s p ≡ q → Answered (measuredWords p q) words n a → ⊥
+      go (Gives m) e v = omega (arith, v .number-is)
+      go (Refuses why) e v = never-9 rules s p why e (sym (v .number-is) ∙ k)
+
+  module _ (words words′ room : List ℕ) where
+    pub words-taken : (n : ℕ) (a : List ℕ) (n′ : ℕ) (after a′ : List ℕ) → 8 ≤ length words → 8 ≤ length words′
+        → Answered (measuredWords p (measuredAt rules s p)) words n a → TakesFrame rules s p room words′ n′ after a′
+        → TakenInWords (payloadAt rules s p) p n (take 8 a) room n′ (take 8 a′) after
+    words-taken n a n′ after a′ h h′ w w′ =
+        taken-in-words p h h′ (measuredAt rules s p) (takenOf s p (length room) (readAt rules s p))
+        (taken-as rules s p room _ _ after refl (record { answers = refl; room-is = w′ .room-is })) w (w′ .answers)
+
+    pub words-alone : (room′ : List ℕ) (n : ℕ) (after a : List ℕ) (n′ : ℕ) (after′ a′ : List ℕ) → 8 ≤ length words → 8 ≤ length words′
+        → TakesFrame rules s p room words n after a → TakesFrame rules s p room′ words′ n′ after′ a′
+        → ByRunAloneInWords p n (take 8 a) after n′ (take 8 a′) after′
+    words-alone room′ n after a n′ after′ a′ h h′ w w′ =
+        by-run-in-words p h h′ (takenOf s p (length room) (readAt rules s p)) (takenOf s p (length room′) (readAt rules s p))
+        (runs-alone rules s p room room′ _ _ after after′ (record { answers = refl; room-is = w .room-is }) (record { answers = refl; room-is = w′ .room-is })) (w .answers) (w′ .answers)
+
+-- ---- `next_frame` is taking under the reader's rules
+
+pub next-is-taken : (s : List ℕ) (p : ℕ) (room : List ℕ) (r : FrameRead) (after : List ℕ) (r′ : Measured) (after′ : List ℕ) → NextFrame s p room r after → Takes Reader s p room r′ after′
+    → (r ≡ readOf p r′) × (after ≡ after′)
+next-is-taken s p room r after r′ after′ a w = (a .answers ∙ sym (next-is s p room r′ r′ after′ w refl .answers), a .room-is ∙ sym (w .room-is))
+
+-- and its words are the same
+read-words : (p : ℕ) (r : Measured) → frameWords (readOf p r) ≡ measuredWords p r
+read-words p (Gives m) = refl
+read-words p (Refuses why) = refl
+
+pub next-words-taken : (s : List ℕ) (p : ℕ) (room words : List ℕ) (n : ℕ) (after a : List ℕ) (n′ : ℕ) (after′ a′ : List ℕ) → ReadsFrame s p room words n after a → TakesFrame Reader s p room words n′ after′ a′
+    → (n ≡ n′) × (a ≡ a′) × (after ≡ after′)
+next-words-taken s p room words n after a n′ after′ a′ x y =
+    let r : Measured = takenOf s p (length room) (readAt Reader s p) in
+    let e : given s p (length room) (readAt Reader s p) ≡ readOf p r = next-is-taken s p room _ _ r _ (record { answers = refl; room-is = refl }) (record { answers = refl; room-is = refl }) .0 in
+    let w : Answered (measuredWords p r) words n a = subst (λ (l : List ℕ). Answered l words n a) (ap frameWords e ∙ read-words p r) (x .answers) in
+    (w .number-is ∙ sym (y .answers .number-is), w .words-are ∙ sym (y .answers .words-are), x .room-is ∙ sym (y .room-is))
