@@ -144,15 +144,10 @@ module _ {q : Measured} {payload : List ℕ} {p : ℕ} {room : List ℕ} {r : Me
             | no h ↦ short m e (t .short m e (omega arith) .0)
           ]
 
--- 9 is given as 9
-nine : (p n : ℕ) (why : Refused) → Refuses (noRoom p n 0) ≡ Refuses why → numberOf (why .why) ≡ 9
-nine p n why e = let z : noRoom p n 0 ≡ why = cc in sym (ap (λ (x : Refused). numberOf (x .why)) z)
-
 refuses-same : (why why′ : Refused) → Refuses why ≡ Refuses why′ → why ≡ why′
 refuses-same why why′ e = cc
 
-module _ {q : Measured} {payload : List ℕ} {p : ℕ} {room room′ : List ℕ} {r r′ : Measured} {after after′ : List ℕ} (not-9 : (why : Refused) → q ≡ Refuses why → numberOf (why .why) ≡ 9 → ⊥)
-    (t : TakenAs q payload p room r after) (t′ : TakenAs q payload p room′ r′ after′) where
+module _ {q : Measured} {payload : List ℕ} {p : ℕ} {room room′ : List ℕ} {r r′ : Measured} {after after′ : List ℕ} (t : TakenAs q payload p room r after) (t′ : TakenAs q payload p room′ r′ after′) where
   -- both are done
   same-done : (m m′ : FrameMeasure) → r ≡ Gives m → r′ ≡ Gives m′ → (m ≡ m′) × (take (m .«payload_len») after ≡ take (m .«payload_len») after′)
   same-done m m′ e e′ =
@@ -168,26 +163,32 @@ module _ {q : Measured} {payload : List ℕ} {p : ℕ} {room room′ : List ℕ}
       (λ n′ a′ b′. absurd (gives-refuses m′ _ (sym e′ ∙ b′))))
       (λ n a b. absurd (gives-refuses m _ (sym e ∙ b)))
 
+  -- both are refused
+  same-refused : (why why′ : Refused) → r ≡ Refuses why → r′ ≡ Refuses why′ → why ≡ why′
+  same-refused why why′ e e′ =
+      measured-first t (λ y a b. refuses-same why why′ (sym e ∙ b ∙ sym (t′ .refused y a .0) ∙ e′)) (λ n a b c. absurd (gives-refuses n why (sym b ∙ e)))
+      (λ n a b. measured-first t′ (λ y a′ b′. absurd (gives-refuses n y (sym a ∙ a′))) (λ n′ a′ b′ c′. absurd (gives-refuses n′ why′ (sym b′ ∙ e′)))
+      (λ n′ a′ b′.
+      let k : n ≡ n′ = gives-same n n′ (sym a ∙ a′) in
+      refuses-same why why′ (sym e ∙ b ∙ ap (λ (x : FrameMeasure). Refuses (noRoom p (x .«payload_len») 0)) k ∙ sym b′ ∙ e′)))
+
+  -- one is refused
+  needs : (why : Refused) (m : FrameMeasure) → r ≡ Refuses why → r′ ≡ Gives m → why ≡ noRoom p (m .«payload_len») 0
+  needs why m e e′ =
+      measured-first t (λ y a b. absurd (gives-refuses m y (sym e′ ∙ t′ .refused y a .0))) (λ n a b c. absurd (gives-refuses n why (sym b ∙ e)))
+      (λ n a b. measured-first t′ (λ y a′ b′. absurd (gives-refuses m y (sym e′ ∙ b′)))
+      (λ n′ a′ b′ c′.
+      let k : n ≡ m = gives-same n m (sym a ∙ a′ ∙ sym b′ ∙ e′) in
+      refuses-same why _ (sym e ∙ b) ∙ ap (λ (x : FrameMeasure). noRoom p (x .«payload_len») 0) k)
+      (λ n′ a′ b′. absurd (gives-refuses m _ (sym e′ ∙ b′))))
+
   pub by-run-alone : ByRunAlone p r after r′ after′
-  by-run-alone =
-      record {
-        done = same-done;
-        refused = λ why e k.
-            measured-first t (λ y a b. t′ .refused y a .0 ∙ sym b ∙ e) (λ n a b c. absurd (gives-refuses n why (sym b ∙ e)))
-            (λ n a b. absurd (k (nine p (n .«payload_len») why (sym b ∙ e))));
-        need = λ why m e e′.
-            measured-first t (λ y a b. absurd (gives-refuses m y (sym e′ ∙ t′ .refused y a .0))) (λ n a b c. absurd (gives-refuses n why (sym b ∙ e)))
-            (λ n a b. measured-first t′ (λ y a′ b′. absurd (gives-refuses m y (sym e′ ∙ b′)))
-            (λ n′ a′ b′ c′.
-            let k : n ≡ m = gives-same n m (sym a ∙ a′ ∙ sym b′ ∙ e′) in
-            refuses-same why _ (sym e ∙ b) ∙ ap (λ (x : FrameMeasure). noRoom p (x .«payload_len») 0) k)
-            (λ n′ a′ b′. absurd (gives-refuses m _ (sym e′ ∙ b′))));
-      }
+  by-run-alone = record { done = same-done; refused = same-refused; need = needs }
 
 pub runs-alone : (rules : Rules) (s : List ℕ) (p : ℕ) (room room′ : List ℕ) (r r′ : Measured) (after after′ : List ℕ) → Takes rules s p room r after → Takes rules s p room′ r′ after′
     → ByRunAlone p r after r′ after′
 runs-alone rules s p room room′ r r′ after after′ w w′ =
-    by-run-alone (λ why e k. never-9 rules s p why e k) (taken-as rules s p room (measuredAt rules s p) r after refl w) (taken-as rules s p room′ (measuredAt rules s p) r′ after′ refl w′)
+    by-run-alone (taken-as rules s p room (measuredAt rules s p) r after refl w) (taken-as rules s p room′ (measuredAt rules s p) r′ after′ refl w′)
 
 -- ---- in words
 
@@ -237,38 +238,45 @@ module _ (p : ℕ) {words words′ : List ℕ} {n n′ : ℕ} {a a′ after : Li
 
   pub by-run-in-words : {after′ : List ℕ} (r r′ : Measured) → ByRunAlone p r after r′ after′ → Answered (measuredWords p r) words n a → Answered (measuredWords p r′) words′ n′ a′
       → ByRunAloneInWords p n (take 8 a) after n′ (take 8 a′) after′
-  by-run-in-words {after′} (Refuses why) r′ t w w′ =
+  by-run-in-words (Refuses why) (Refuses why′) t w w′ =
+      let e : why ≡ why′ = t .refused why why′ refl refl in
       record {
-        done = λ e e′. absurd (not-0 p why words n a w e);
-        refused = λ z k.
-            let x = t .refused why refl (λ e. k (w .number-is ∙ e)) in
-            let v : Answered (measuredWords p (Refuses why)) words′ n′ a′ = said-as p h′ r′ (Refuses why) x w′ in
-            (v .number-is ∙ sym (w .number-is), said p h′ (Refuses why) v ∙ sym (said p h (Refuses why) w));
-        need = λ e e′. of-other r′ t w′ e′;
+        done = λ z z′. absurd (not-0 p why words n a w z);
+        refused = λ z z′. (
+          w .number-is ∙ ap (λ (y : Refused). numberOf (y .why)) e ∙ sym (w′ .number-is),
+          said p h (Refuses why) w ∙ ap (λ (y : Refused). measuredWords p (Refuses y)) e ∙ sym (said p h′ (Refuses why′) w′),
+        );
+        need = λ z z′. absurd (not-0 p why′ words′ n′ a′ w′ z′);
       }
-    where
-      of-other : (x : Measured) → ByRunAlone p (Refuses why) after x after′ → Answered (measuredWords p x) words′ n′ a′ → n′ ≡ 0 → take 8 a ≡ measuredWords p (Refuses (noRoom p (getD (take 8 a′) 5 0) 0))
-      of-other (Refuses y) u v e′ = absurd (not-0 p y words′ n′ a′ v e′)
-      of-other (Gives m) u v e′ =
-          let k : getD (take 8 a′) 5 0 ≡ m .«payload_len» = ap (λ (l : List ℕ). getD l 5 0) (said p h′ (Gives m) v) in
-          said p h (Refuses why) w ∙ ap (λ (y : Refused). measuredWords p (Refuses y)) (u .need why m refl refl ∙ ap (λ (b : ℕ). noRoom p b 0) (sym k))
-  by-run-in-words {after′} (Gives m) r′ t w w′ =
+  by-run-in-words (Refuses why) (Gives m) t w w′ =
+      let k : getD (take 8 a′) 5 0 ≡ m .«payload_len» = ap (λ (l : List ℕ). getD l 5 0) (said p h′ (Gives m) w′) in
+      let e : why ≡ noRoom p (getD (take 8 a′) 5 0) 0 = t .need why m refl refl ∙ ap (λ (b : ℕ). noRoom p b 0) (sym k) in
       record {
-        done = λ e e′. of-other r′ t w′ e′;
-        refused = λ z k. absurd (z (w .number-is));
-        need = λ e e′. absurd (omega (arith, w .number-is));
+        done = λ z z′. absurd (not-0 p why words n a w z);
+        refused = λ z z′. absurd (z′ (w′ .number-is));
+        need = λ z z′. (
+          w .number-is ∙ ap (λ (y : Refused). numberOf (y .why)) e,
+          said p h (Refuses why) w ∙ ap (λ (y : Refused). measuredWords p (Refuses y)) e,
+        );
       }
-    where
-      of-other : (x : Measured) → ByRunAlone p (Gives m) after x after′ → Answered (measuredWords p x) words′ n′ a′ → n′ ≡ 0
-          → (take 8 a ≡ take 8 a′) × (take (getD (take 8 a) 5 0) after ≡ take (getD (take 8 a) 5 0) after′)
-      of-other (Refuses y) u v e′ = absurd (not-0 p y words′ n′ a′ v e′)
-      of-other (Gives m′) u v e′ =
-          let d = u .done m m′ refl refl in
-          let s : take 8 a ≡ measuredWords p (Gives m) = said p h (Gives m) w in
-          let k : getD (take 8 a) 5 0 ≡ m .«payload_len» = ap (λ (l : List ℕ). getD l 5 0) s in (
-            s ∙ ap (λ (x : FrameMeasure). measuredWords p (Gives x)) (d .0) ∙ sym (said p h′ (Gives m′) v),
-            ap (λ (b : ℕ). take b after) k ∙ d .1 ∙ ap (λ (b : ℕ). take b after′) (sym k),
-          )
+  by-run-in-words (Gives m) (Refuses why′) t w w′ =
+      record {
+        done = λ z z′. absurd (not-0 p why′ words′ n′ a′ w′ z′);
+        refused = λ z z′. absurd (z (w .number-is));
+        need = λ z z′. absurd (z (w .number-is));
+      }
+  by-run-in-words {after′} (Gives m) (Gives m′) t w w′ =
+      let d = t .done m m′ refl refl in
+      let s : take 8 a ≡ measuredWords p (Gives m) = said p h (Gives m) w in
+      let k : getD (take 8 a) 5 0 ≡ m .«payload_len» = ap (λ (l : List ℕ). getD l 5 0) s in
+      record {
+        done = λ z z′. (
+          s ∙ ap (λ (x : FrameMeasure). measuredWords p (Gives x)) (d .0) ∙ sym (said p h′ (Gives m′) w′),
+          ap (λ (b : ℕ). take b after) k ∙ d .1 ∙ ap (λ (b : ℕ). take b after′) (sym k),
+        );
+        refused = λ z z′. absurd (z (w .number-is));
+        need = λ z z′. absurd (z (w .number-is));
+      }
 
 -- over what the contracts of the exported functions allow
 module _ (rules : Rules) (s : List ℕ) (p : ℕ) where

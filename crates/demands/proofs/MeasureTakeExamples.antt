@@ -66,7 +66,7 @@ pub not-taken : (κs : Lfts 2) → _≡_ {A = List ℕ} (9 ∷ []) (9 ∷ [])
 unfolding splice laid readAt absorb absorbFuel look payloadOf endOf frameWalk continuations walkFuel
 not-taken κs = take-refused κs (lending (9 ∷ [])) (noRoom 0 2 0) (9 ∷ []) Reader (lending p9) 0 (record { answers = refl; room-is = refl })
 
--- into two rooms, of which one is longer and holds other bytes; and one that is too short beside it
+-- into two rooms, of which one is longer and holds other bytes; one that is too short beside it; and two that are too short
 pub two-rooms : (κs κs′ : Lfts 2) → ByRunAlone 0 (Gives (measured 2)) (0xAA ∷ 0xBB ∷ []) (Gives (measured 2)) (0xAA ∷ 0xBB ∷ 8 ∷ [])
 unfolding splice laid readAt absorb absorbFuel look payloadOf endOf frameWalk continuations walkFuel
 two-rooms κs κs′ =
@@ -77,6 +77,12 @@ pub one-too-short : (κs κs′ : Lfts 2) → ByRunAlone 0 (Refuses (noRoom 0 2 
 unfolding splice laid readAt absorb absorbFuel look payloadOf endOf frameWalk continuations walkFuel
 one-too-short κs κs′ =
     taken-by-run-alone Reader (lending p9) 0 κs κs′ (lending (9 ∷ [])) (lending (9 ∷ 9 ∷ [])) (Refuses (noRoom 0 2 0)) (Gives (measured 2)) (9 ∷ []) (0xAA ∷ 0xBB ∷ [])
+    (record { answers = refl; room-is = refl }) (record { answers = refl; room-is = refl })
+
+pub both-too-short : (κs κs′ : Lfts 2) → ByRunAlone 0 (Refuses (noRoom 0 2 0)) (9 ∷ []) (Refuses (noRoom 0 2 0)) []
+unfolding splice laid readAt absorb absorbFuel look payloadOf endOf frameWalk continuations walkFuel
+both-too-short κs κs′ =
+    taken-by-run-alone Reader (lending p9) 0 κs κs′ (lending (9 ∷ [])) (lending []) (Refuses (noRoom 0 2 0)) (Refuses (noRoom 0 2 0)) (9 ∷ []) []
     (record { answers = refl; room-is = refl }) (record { answers = refl; room-is = refl })
 
 pub spans : (κs κs′ : Lfts 1) → _≡_ {A = Extent} (Spans 2 14) (Spans 2 14)
@@ -165,7 +171,7 @@ module _ (measure : Rules → List ℕ → ℕ → Measured) (answer : Rules →
   no-idle e i j =
       let t = w .takes Reader p9 0 (9 ∷ 9 ∷ []) in
       let u = w .takes Reader p9 0 (8 ∷ 8 ∷ []) in
-      let d = by-run-alone (λ why f k. w .all-but-9 Reader p9 0 why f k) t u .done (measured 2) (measured 2) (t .enough (measured 2) e (omega arith) .0) (u .enough (measured 2) e (omega arith) .0) .1 in
+      let d = by-run-alone t u .done (measured 2) (measured 2) (t .enough (measured 2) e (omega arith) .0) (u .enough (measured 2) e (omega arith) .0) .1 in
       let z : _≡_ {A = ℕ} 9 8 = ap (λ (l : List ℕ). getD l 0 0) (sym (ap (take 2) i) ∙ d ∙ ap (take 2) j) in
       omega arith
 

@@ -36,13 +36,13 @@ pub record MeasuresThenTakes (measure : Rules → List ℕ → ℕ → Measured)
   pub payload : Rules → List ℕ → ℕ → List ℕ
   pub takes : (rules : Rules) (s : List ℕ) (p : ℕ) (room : List ℕ) → TakenAs (measure rules s p) (payload rules s p) p room (answer rules s p room) (after rules s p room)
 
--- The frame at p was taken twice, into two rooms of any lengths: what comes of it is the run's alone, and of a room only its length counts,
--- for 9.
+-- The frame at p was taken twice, into two rooms of any lengths and contents: what comes of it is the run's alone. Of a room only its
+-- length counts, and that for 9.
 pub record ByRunAlone (p : ℕ) (answer : Measured) (after : List ℕ) (answer′ : Measured) (after′ : List ℕ) : Type 0 where
   -- both are done: the same frame, and the same payload at the start of either room
   pub done : (m m′ : FrameMeasure) → answer ≡ Gives m → answer′ ≡ Gives m′ → (m ≡ m′) × (take (m .«payload_len») after ≡ take (m .«payload_len») after′)
-  -- one is refused, not for want of room: the other is refused alike
-  pub refused : (why : Refused) → answer ≡ Refuses why → (numberOf (why .why) ≡ 9 → ⊥) → answer′ ≡ Refuses why
+  -- both are refused: alike, also where it is 9
+  pub refused : (why why′ : Refused) → answer ≡ Refuses why → answer′ ≡ Refuses why′ → why ≡ why′
   -- one is refused where the other is done: it is 9, with the length of what the other took
   pub need : (why : Refused) (m : FrameMeasure) → answer ≡ Refuses why → answer′ ≡ Gives m → why ≡ noRoom p (m .«payload_len») 0
 
@@ -56,5 +56,5 @@ pub record TakenInWords (payload : List ℕ) (p number : ℕ) (words room : List
 
 pub record ByRunAloneInWords (p number : ℕ) (words after : List ℕ) (number′ : ℕ) (words′ after′ : List ℕ) : Type 0 where
   pub done : number ≡ 0 → number′ ≡ 0 → (words ≡ words′) × (take (getD words 5 0) after ≡ take (getD words 5 0) after′)
-  pub refused : (number ≡ 0 → ⊥) → (number ≡ 9 → ⊥) → (number′ ≡ number) × (words′ ≡ words)
-  pub need : number ≡ 9 → number′ ≡ 0 → words ≡ refusalWords (noRoom p (getD words′ 5 0) 0)
+  pub refused : (number ≡ 0 → ⊥) → (number′ ≡ 0 → ⊥) → (number ≡ number′) × (words ≡ words′)
+  pub need : (number ≡ 0 → ⊥) → number′ ≡ 0 → (number ≡ 9) × (words ≡ refusalWords (noRoom p (getD words′ 5 0) 0))
