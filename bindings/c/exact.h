@@ -14,5 +14,5 @@ static uint8_t *take_exactly(uint8_t rules, const uint8_t *run, size_t run_len, 
     uint8_t *payload = malloc(need > 0 ? need : 1); /* for 0 bytes malloc may give NULL */
     if (payload != NULL)
         lattrugone_take_frame(rules, run, run_len, at, payload, need, words, LATTRUGONE_WORDS);
-    return payload; /* of the same run, position and rules nothing is refused that was measured, nor is the room */
+    return payload; /* filled: with the same run, position and rules, what was measured isn't refused */
 }

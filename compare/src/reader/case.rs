@@ -1,6 +1,7 @@
 //! One run, read by both: each call at each position that the Rust comes to, then all frames at once.
 use super::all::{listed, to_end, ByFrame};
 use super::rust::{end, next, position, Came, Read};
+use super::SHORT;
 use crate::answers::{answered, expected, refused, Answer};
 use crate::lent::Lent;
 use crate::measure::Pair;
@@ -186,7 +187,10 @@ impl Case<'_> {
             _ if need > 0 => self.next_in(tally, at, read, need - 1),
             _ => (),
         }
-        self.pair(tally, at, read, turn);
+        // Of short runs, which are many and alike, one in four.
+        if self.run.len() > SHORT || turn % 4 == 0 {
+            self.pair(tally, at, read, turn / 4);
+        }
     }
 
     /// The same frame measured and taken, by the reader's rules; and what stands there by salvage's. Beyond the run both are refused.
