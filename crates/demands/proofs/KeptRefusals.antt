@@ -1,5 +1,5 @@
 -- A refusal leaves what was lent as it was: over the records that the contracts cite.
-use Prim.Native.Nat.{ℕ, _+_, _-_, _≤_, _<_}
+use Prim.Native.Nat.{ℕ, _+_, _-_, _<_}
 use native.Mathlib.Omega.{arith}
 use mathlib.Core.Path.{_≡_, refl, sym, ap, _∙_}
 use mathlib.Core.Logic.{_⊎_, inl, inr}
@@ -19,8 +19,7 @@ use Rattle.answer.specs.declared.RoomFor.the-variants.{Enough}
 use Rattle.dss_head.specs.declared.DssType.{DssType}
 use Rattle.dss_head.specs.declared.TypeFound.{TypeFound}
 use Rattle.dss_head.specs.declared.TypeFound.the-variants.{Is, Refused as NoType}
-use Rattle.dss_frame.specs.Segments.{payloadOf}
-use Rattle.dss_frame.specs.Reading.{Frame, Read, frame, refused, readAt}
+use Rattle.dss_frame.specs.Reading.{Frame, readAt}
 use Rattle.dss_frame.specs.Frames.{AllRead, frames, refusedAll, allFrames}
 use Rattle.dss_frame.specs.Records.{payloadsOf}
 use Rattle.dss_frame.specs.Salvage.{salvaged}
@@ -30,7 +29,7 @@ use Rattle.dss_frame.specs.declared.Rules.{Rules}
 use Rattle.dss_frame.specs.declared.Rules.the-variants.{Reader}
 use Rattle.dss_measure.specs.declared.Measured.{Measured}
 use Rattle.dss_measure.specs.declared.Measured.the-variants.{Frame as Taken, Refused as NotTaken}
-use Rattle.dss_take.specs.Take.{takenOf, roomRead, Takes}
+use Rattle.dss_take.specs.Take.{takenOf, Takes}
 use Rattle.dss_writer.specs.Writer.{wroteBy, Writes}
 use Rattle.dss_writer.specs.declared.DssWriter.{DssWriter}
 use Rattle.dss_writer.specs.declared.Wrote.{Wrote}
@@ -55,6 +54,7 @@ use Rattle.gateway_salvage.specs.SalvageWords.{salvagedWords, SalvagesInWords}
 use Rattle.demands.proofs.LongerAll.{all-final}
 use Rattle.demands.proofs.KeptMeaning.{RefusedInWords}
 use Rattle.demands.proofs.KeptFrame.{answer-says}
+use Rattle.demands.proofs.MeasureTake.{takes-kept, next-is-taken}
 
 -- ---- writing
 
@@ -77,35 +77,19 @@ writes-kept w f room x after p =
 
 -- ---- reading one frame
 
-kept-reading : (s : List ℕ) (p : ℕ) (room : List ℕ) (x : Read) (y : Refused) (d : DssReader) → NotRead y d ≡ given s p (length room) x
-    → (roomRead s room x ≡ room) × (d ≡ leftAt p y)
-kept-reading s p room (refused r) y d e = (refl, cc)
-kept-reading s p room (frame f) y d e =
-    by (leb (length (payloadOf s (f .segments))) (length room))
-    (λ t. let k = e ∙ pick-yes _ _ t in let z : _≡_ {A = ℕ} 0 1 = cc in absurd (omega arith))
-    (λ t.
-    let k : NotRead y d ≡ NotRead (noRoom p (length (payloadOf s (f .segments))) 0) (standsAt p) = e ∙ pick-no _ _ t in
-    let i : y ≡ noRoom p (length (payloadOf s (f .segments))) 0 = cc in
-    let j : d ≡ standsAt p = cc in
-    (laid-kept room 0 (payloadOf s (f .segments)) (omega (arith, leb-false (length (payloadOf s (f .segments))) (length room) t)), j ∙ ap (leftAt p) (sym i)))
-
+-- `next_frame` is taking, whose refusals leave the room
 pub reads-kept : (s : List ℕ) (p : ℕ) (room : List ℕ) (y : Refused) (d : DssReader) (after : List ℕ) → NextFrame s p room (NotRead y d) after
     → (after ≡ room) × (d ≡ leftAt p y)
 reads-kept s p room y d after q =
-    let k = kept-reading s p room (readAt Reader s p) y d (q .answers) in
-    (q .room-is ∙ k .0, k .1)
-
--- ---- taking one frame, under either's rules
-
-kept-taking : (s : List ℕ) (p : ℕ) (room : List ℕ) (x : Read) (y : Refused) → NotTaken y ≡ takenOf s p (length room) x → roomRead s room x ≡ room
-kept-taking s p room (refused r) y e = refl
-kept-taking s p room (frame f) y e =
-    by (leb (length (payloadOf s (f .segments))) (length room))
-    (λ t. let k = e ∙ pick-yes _ _ t in let z : _≡_ {A = ℕ} 0 1 = cc in absurd (omega arith))
-    (λ t. laid-kept room 0 (payloadOf s (f .segments)) (omega (arith, leb-false (length (payloadOf s (f .segments))) (length room) t)))
-
-pub takes-kept : (rules : Rules) (s : List ℕ) (p : ℕ) (room : List ℕ) (y : Refused) (after : List ℕ) → Takes rules s p room (NotTaken y) after → after ≡ room
-takes-kept rules s p room y after q = q .room-is ∙ kept-taking s p room (readAt rules s p) y (q .answers)
+    go (takenOf s p (length room) (readAt Reader s p)) (record { answers = refl; room-is = q .room-is })
+  where
+    go : (x : Measured) → Takes Reader s p room x after → (after ≡ room) × (d ≡ leftAt p y)
+    go (Taken m) w = let k = next-is-taken s p room (NotRead y d) after (Taken m) after q w .0 in let z : _≡_ {A = ℕ} 0 1 = cc in absurd (omega arith)
+    go (NotTaken z) w =
+        let k : NotRead y d ≡ NotRead z (leftAt p z) = next-is-taken s p room (NotRead y d) after (NotTaken z) after q w .0 in
+        let i : y ≡ z = cc in
+        let j : d ≡ leftAt p z = cc in
+        (takes-kept Reader s p room z after w, j ∙ ap (leftAt p) (sym i))
 
 -- ---- reading all frames
 
@@ -202,12 +186,12 @@ module _ (words : List ℕ) (n : ℕ) (answer : List ℕ) (nz : n ≡ 0 → ⊥)
   pub frame-kept : (s : List ℕ) (p : ℕ) (room after : List ℕ) → ReadsFrame s p room words n after answer → RefusedInWords words n answer × (after ≡ room)
   frame-kept s p room after q =
       let x = of-read (given s p (length room) (readAt Reader s p)) (q .answers) in
-      (x .said, q .room-is ∙ kept-reading s p room (readAt Reader s p) (x .y) (x .d) (sym (x .is)) .0)
+      (x .said, reads-kept s p room (x .y) (x .d) after (record { answers = sym (x .is); room-is = q .room-is }) .0)
 
   pub taken-kept : (rules : Rules) (s : List ℕ) (p : ℕ) (room after : List ℕ) → TakesFrame rules s p room words n after answer → RefusedInWords words n answer × (after ≡ room)
   taken-kept rules s p room after q =
       let x = of-taken p (takenOf s p (length room) (readAt rules s p)) (q .answers) in
-      (x .said, q .room-is ∙ kept-taking s p room (readAt rules s p) (x .y) (sym (x .is)))
+      (x .said, takes-kept rules s p room (x .y) after (record { answers = sym (x .is); room-is = q .room-is }))
 
   pub frames-kept : (s : List ℕ) (p : ℕ) (room row room-after row-after : List ℕ) → ReadsAllFrames s p room row words n room-after row-after answer
       → RefusedInWords words n answer × (room-after ≡ room) × (row-after ≡ row)

@@ -35,6 +35,7 @@ pub mod KeptMeaning
 pub mod KeptFrame
 pub mod KeptRows
 pub mod StretchCalls
+pub mod OwnHead
 pub mod MeasureTake
 pub mod SalvageClauses
 pub mod FullRun
@@ -43,6 +44,7 @@ pub mod DeadCalls
 pub mod AsReadCalls
 pub mod FourTypesCalls
 pub mod Kept
+pub mod KeptRequests
 pub mod KeptExamples
 pub mod StretchExamples
 pub mod MeasureTakeExamples

@@ -5,29 +5,27 @@ use native.Mathlib.Decide.{decLe}
 use mathlib.Core.Path.{_≡_, refl, sym, ap, subst, _∙_}
 use mathlib.Core.Logic.{inl, inr}
 use mathlib.Core.List.{List, []}
-use lib.Dec.{leb}
 use lib.ListN.{length, getD, take}
-use borrow.Author.Tests.{le-leb, lt-leb}
+use borrow.Author.Tests.{lt-leb, ne-eqb}
 use Rattle.wire.specs.Bytes.{splice}
-use Rattle.wire.specs.Laws.{pick-yes, pick-no}
-use Rattle.wire.specs.Splice.{laid-fits, laid-kept, splice-written}
+use Rattle.wire.specs.Laws.{pick-no}
+use Rattle.wire.specs.Splice.{splice-written}
 use Rattle.answer.specs.Numbers.{numberOf}
 use Rattle.answer.specs.Rooms.{noRoom, outOfBounds}
 use Rattle.answer.specs.declared.Refused.{Refused}
 use Rattle.dss_frame.specs.declared.Rules.{Rules}
-use Rattle.dss_frame.specs.declared.Rules.the-variants.{Reader}
-use Rattle.dss_frame.specs.Segments.{payloadOf}
-use Rattle.dss_frame.specs.Reading.{Read, frame, refused, readAt}
+use Rattle.dss_frame.specs.declared.Rules.the-variants.{Reader, Salvage}
+use Rattle.dss_frame.specs.Reading.{refused, readAt, positionLeft}
 use Rattle.dss_measure.specs.declared.FrameMeasure.{FrameMeasure}
 use Rattle.dss_measure.specs.declared.Measured.{Measured}
 use Rattle.dss_measure.specs.declared.Measured.the-variants.{Frame as Gives, Refused as Refuses}
-use Rattle.dss_measure.specs.Measure.{measureOf, measuredOf, measuredAt}
+use Rattle.dss_measure.specs.Measure.{measuredAt}
 use Rattle.dss_row.specs.Measures.{measured-not}
-use Rattle.dss_take.specs.Take.{takenOf, roomRead, readBytes, payloadAt, Takes}
+use Rattle.dss_take.specs.Take.{takenOf, roomRead, payloadAt, Takes}
+use Rattle.dss_take.specs.Answers.{measures, takes-refusal, takes-size, takes-short, takes-frame}
 use Rattle.dss_reader.specs.Reader.{given, readOf, NextFrame}
 use Rattle.dss_reader.specs.Taking.{next-is}
 use Rattle.dss_reader.specs.declared.FrameRead.{FrameRead}
-use Rattle.dss_reader.specs.declared.FrameRead.the-variants.{Frame as Hands, Refused as NotRead}
 use Rattle.gateway_words.specs.Words.{Answered}
 use Rattle.gateway_row.specs.RecordBack.{numbered}
 use Rattle.gateway_reader.specs.ReaderWords.{frameWords, ReadsFrame}
@@ -36,6 +34,7 @@ use Rattle.gateway_take.specs.TakeWords.{TakesFrame}
 use Rattle.demands.specs.Longer.{Final}
 use Rattle.demands.specs.MeasureTake.{TakenAs, MeasuresThenTakes, ByRunAlone, TakenInWords, ByRunAloneInWords}
 use Rattle.demands.proofs.Longer.{refusals-stay}
+use Rattle.demands.proofs.OwnHead.{own-head}
 use Rattle.demands.proofs.KeptFrame.{answer-says}
 
 pub gives-refuses : (m : FrameMeasure) (why : Refused) → Gives m ≡ Refuses why → ⊥
@@ -71,50 +70,28 @@ never-9 rules s p r m k =
 
 -- ---- taking, of what was measured
 
-as-read : (s : List ℕ) (p : ℕ) (room : List ℕ) (x : Read) (q r : Measured) (after : List ℕ) → q ≡ measuredOf s p x → r ≡ takenOf s p (length room) x → after ≡ roomRead s room x
-    → TakenAs q (readBytes s x) p room r after
-as-read s p room (refused y) q r after a b c =
-    record {
-      refused = λ why e. (b ∙ sym a ∙ e, c);
-      counted = λ m e. absurd (gives-refuses m y (sym e ∙ a));
-      enough = λ m e h. absurd (gives-refuses m y (sym e ∙ a));
-      short = λ m e h. absurd (gives-refuses m y (sym e ∙ a));
-    }
-as-read s p room (frame f) q r after a b c =
-    record {
-      refused = λ why e. absurd (gives-refuses (measureOf s p f) why (sym a ∙ e));
-      counted = λ m e. long m e;
-      enough = λ m e h. (
-        b ∙ pick-yes _ _ (le-leb (length (payloadOf s (f .segments))) (length room) (omega (arith, long m e))) ∙ sym a ∙ e,
-        c ∙ laid-fits room 0 (payloadOf s (f .segments)) (omega (arith, long m e)),
-      );
-      short = λ m e h. (
-        b
-            ∙ pick-no _ _ (lt-leb (length (payloadOf s (f .segments))) (length room) (omega (arith, long m e)))
-            ∙ ap (λ (n : ℕ). Refuses (noRoom p n 0)) (long m e),
-        c ∙ laid-kept room 0 (payloadOf s (f .segments)) (omega (arith, long m e)),
-      );
-    }
-  where
-    long : (m : FrameMeasure) → q ≡ Gives m → length (payloadOf s (f .segments)) ≡ m .«payload_len»
-    long m e = ap (λ (x : FrameMeasure). x .«payload_len») (gives-same (measureOf s p f) m (sym a ∙ e))
-
+-- each case is a law of taking, whose contract allows one outcome
 pub taken-as : (rules : Rules) (s : List ℕ) (p : ℕ) (room : List ℕ) (q r : Measured) (after : List ℕ) → q ≡ measuredAt rules s p → Takes rules s p room r after
     → TakenAs q (payloadAt rules s p) p room r after
-unfolding measuredAt payloadAt
-taken-as rules s p room q r after a w = as-read s p room (readAt rules s p) q r after a (w .answers) (w .room-is)
+taken-as rules s p room q r after a w =
+    record {
+      refused = λ why e. one (takes-refusal rules s p room why (sym a ∙ e));
+      counted = λ m e. sym (takes-size (measures rules s p m (sym a ∙ e)));
+      enough = λ m e h. one (takes-frame (measures rules s p m (sym a ∙ e)) h refl);
+      short = λ m e h. one (takes-short (measures rules s p m (sym a ∙ e)) h);
+    }
+  where
+    one : {x : Measured} {l : List ℕ} → Takes rules s p room x l → (r ≡ x) × (after ≡ l)
+    one v = (w .answers ∙ sym (v .answers), w .room-is ∙ sym (v .room-is))
 
 pub measures-then-takes : MeasuresThenTakes measuredAt (λ rules s p room. takenOf s p (length room) (readAt rules s p)) (λ rules s p room. roomRead s room (readAt rules s p))
 measures-then-takes =
     record {
       all-but-9 = never-9;
+      own-head = own-head;
       payload = payloadAt;
       takes = λ rules s p room. taken-as rules s p room _ _ _ refl (record { answers = refl; room-is = refl });
     }
-
--- the same of what the contract of `measure` allows
-pub measured-not-9 : (rules : Rules) (s : List ℕ) (p : ℕ) (why : Refused) → Refuses why ≡ measuredAt rules s p → numberOf (why .why) ≡ 9 → ⊥
-measured-not-9 rules s p why e k = never-9 rules s p why (sym e) k
 
 -- a room of the measured length isn't refused
 pub not-refused : (rules : Rules) (s : List ℕ) (p : ℕ) (room : List ℕ) (m : FrameMeasure) (why : Refused) (after : List ℕ) → length room ≡ m .«payload_len» → Gives m ≡ measuredAt rules s p
@@ -123,11 +100,11 @@ not-refused rules s p room m why after e a w = gives-refuses m why (sym (taken-a
 
 -- ---- two rooms
 
--- what was measured, of what was taken: the frame that is handed out, or a refusal that isn't 9
+-- taking by its cases: refused as measuring was, done with what was measured, or 9; a refusal leaves the room
 module _ {q : Measured} {payload : List ℕ} {p : ℕ} {room : List ℕ} {r : Measured} {after : List ℕ} (t : TakenAs q payload p room r after) where
-  pub measured-first : {ℓ : Type 0} → ((why : Refused) → q ≡ Refuses why → r ≡ Refuses why → ℓ)
+  pub measured-first : {ℓ : Type 0} → ((why : Refused) → q ≡ Refuses why → r ≡ Refuses why → after ≡ room → ℓ)
       → ((m : FrameMeasure) → q ≡ Gives m → r ≡ Gives m → take (m .«payload_len») after ≡ payload → ℓ)
-      → ((m : FrameMeasure) → q ≡ Gives m → r ≡ Refuses (noRoom p (m .«payload_len») 0) → ℓ)
+      → ((m : FrameMeasure) → q ≡ Gives m → r ≡ Refuses (noRoom p (m .«payload_len») 0) → after ≡ room → ℓ)
       → ℓ
   measured-first {ℓ} none done short = go q refl
     where
@@ -137,12 +114,16 @@ module _ {q : Measured} {payload : List ℕ} {p : ℕ} {room : List ℕ} {r : Me
           ap (take (m .«payload_len»)) (t .enough m e h .1) ∙ ap (λ (n : ℕ). take n (splice room 0 payload)) z ∙ splice-written room 0 payload (omega arith)
 
       go : (x : Measured) → q ≡ x → ℓ
-      go (Refuses why) e = none why e (t .refused why e .0)
+      go (Refuses why) e = none why e (t .refused why e .0) (t .refused why e .1)
       go (Gives m) e =
           elim (decLe (m .«payload_len») (length room)) [
             | yes h ↦ done m e (t .enough m e h .0) (fits m e h)
-            | no h ↦ short m e (t .short m e (omega arith) .0)
+            | no h ↦ short m e (t .short m e (omega arith) .0) (t .short m e (omega arith) .1)
           ]
+
+pub takes-kept : (rules : Rules) (s : List ℕ) (p : ℕ) (room : List ℕ) (why : Refused) (after : List ℕ) → Takes rules s p room (Refuses why) after → after ≡ room
+takes-kept rules s p room why after w =
+    measured-first (taken-as rules s p room (measuredAt rules s p) (Refuses why) after refl w) (λ y a b k. k) (λ m a b c. absurd (gives-refuses m why (sym b))) (λ m a b k. k)
 
 refuses-same : (why why′ : Refused) → Refuses why ≡ Refuses why′ → why ≡ why′
 refuses-same why why′ e = cc
@@ -151,8 +132,8 @@ module _ {q : Measured} {payload : List ℕ} {p : ℕ} {room room′ : List ℕ}
   -- both are done
   same-done : (m m′ : FrameMeasure) → r ≡ Gives m → r′ ≡ Gives m′ → (m ≡ m′) × (take (m .«payload_len») after ≡ take (m .«payload_len») after′)
   same-done m m′ e e′ =
-      measured-first t (λ why a b. absurd (gives-refuses m why (sym e ∙ b)))
-      (λ n a b c. measured-first t′ (λ why a′ b′. absurd (gives-refuses m′ why (sym e′ ∙ b′)))
+      measured-first t (λ why a b o. absurd (gives-refuses m why (sym e ∙ b)))
+      (λ n a b c. measured-first t′ (λ why a′ b′ o. absurd (gives-refuses m′ why (sym e′ ∙ b′)))
       (λ n′ a′ b′ c′.
       let i : n ≡ m = gives-same n m (sym b ∙ e) in
       let j : n′ ≡ m′ = gives-same n′ m′ (sym b′ ∙ e′) in
@@ -160,27 +141,27 @@ module _ {q : Measured} {payload : List ℕ} {p : ℕ} {room room′ : List ℕ}
         sym i ∙ k ∙ j,
         ap (λ (x : FrameMeasure). take (x .«payload_len») after) (sym i) ∙ c ∙ sym c′ ∙ ap (λ (x : FrameMeasure). take (x .«payload_len») after′) (sym k ∙ i),
       ))
-      (λ n′ a′ b′. absurd (gives-refuses m′ _ (sym e′ ∙ b′))))
-      (λ n a b. absurd (gives-refuses m _ (sym e ∙ b)))
+      (λ n′ a′ b′ o. absurd (gives-refuses m′ _ (sym e′ ∙ b′))))
+      (λ n a b o. absurd (gives-refuses m _ (sym e ∙ b)))
 
   -- both are refused
   same-refused : (why why′ : Refused) → r ≡ Refuses why → r′ ≡ Refuses why′ → why ≡ why′
   same-refused why why′ e e′ =
-      measured-first t (λ y a b. refuses-same why why′ (sym e ∙ b ∙ sym (t′ .refused y a .0) ∙ e′)) (λ n a b c. absurd (gives-refuses n why (sym b ∙ e)))
-      (λ n a b. measured-first t′ (λ y a′ b′. absurd (gives-refuses n y (sym a ∙ a′))) (λ n′ a′ b′ c′. absurd (gives-refuses n′ why′ (sym b′ ∙ e′)))
-      (λ n′ a′ b′.
+      measured-first t (λ y a b o. refuses-same why why′ (sym e ∙ b ∙ sym (t′ .refused y a .0) ∙ e′)) (λ n a b c. absurd (gives-refuses n why (sym b ∙ e)))
+      (λ n a b o. measured-first t′ (λ y a′ b′ o. absurd (gives-refuses n y (sym a ∙ a′))) (λ n′ a′ b′ c′. absurd (gives-refuses n′ why′ (sym b′ ∙ e′)))
+      (λ n′ a′ b′ o.
       let k : n ≡ n′ = gives-same n n′ (sym a ∙ a′) in
       refuses-same why why′ (sym e ∙ b ∙ ap (λ (x : FrameMeasure). Refuses (noRoom p (x .«payload_len») 0)) k ∙ sym b′ ∙ e′)))
 
   -- one is refused
   needs : (why : Refused) (m : FrameMeasure) → r ≡ Refuses why → r′ ≡ Gives m → why ≡ noRoom p (m .«payload_len») 0
   needs why m e e′ =
-      measured-first t (λ y a b. absurd (gives-refuses m y (sym e′ ∙ t′ .refused y a .0))) (λ n a b c. absurd (gives-refuses n why (sym b ∙ e)))
-      (λ n a b. measured-first t′ (λ y a′ b′. absurd (gives-refuses m y (sym e′ ∙ b′)))
+      measured-first t (λ y a b o. absurd (gives-refuses m y (sym e′ ∙ t′ .refused y a .0))) (λ n a b c. absurd (gives-refuses n why (sym b ∙ e)))
+      (λ n a b o. measured-first t′ (λ y a′ b′ o. absurd (gives-refuses m y (sym e′ ∙ b′)))
       (λ n′ a′ b′ c′.
       let k : n ≡ m = gives-same n m (sym a ∙ a′ ∙ sym b′ ∙ e′) in
       refuses-same why _ (sym e ∙ b) ∙ ap (λ (x : FrameMeasure). noRoom p (x .«payload_len») 0) k)
-      (λ n′ a′ b′. absurd (gives-refuses m _ (sym e′ ∙ b′))))
+      (λ n′ a′ b′ o. absurd (gives-refuses m _ (sym e′ ∙ b′))))
 
   pub by-run-alone : ByRunAlone p r after r′ after′
   by-run-alone = record { done = same-done; refused = same-refused; need = needs }
@@ -286,6 +267,16 @@ module _ (rules : Rules) (s : List ℕ) (p : ℕ) where
       go : (q : Measured) → measuredAt rules s p ≡ q → Answered (measuredWords p q) words n a → ⊥
       go (Gives m) e v = omega (arith, v .number-is)
       go (Refuses why) e v = never-9 rules s p why e (sym (v .number-is) ∙ k)
+
+  -- under salvage's rules the place of every refusal but 16 is the position
+  pub words-own : rules ≡ Salvage → (words : List ℕ) (n : ℕ) (a : List ℕ) → 8 ≤ length words → Answered (measuredWords p (measuredAt rules s p)) words n a → (n ≡ 0 → ⊥) → (n ≡ 16 → ⊥) → getD (take 8 a) 1 0 ≡ p
+  words-own i words n a h w z k = go (measuredAt rules s p) refl w
+    where
+      go : (q : Measured) → measuredAt rules s p ≡ q → Answered (measuredWords p q) words n a → getD (take 8 a) 1 0 ≡ p
+      go (Gives m) e v = absurd (z (v .number-is))
+      go (Refuses why) e v =
+          let o : positionLeft p why ≡ p = own-head s p why (ap (λ (x : Rules). measuredAt x s p) (sym i) ∙ e) in
+          ap (λ (l : List ℕ). getD l 1 0) (said p h (Refuses why) v) ∙ sym (pick-no _ _ (ne-eqb (numberOf (why .why)) 16 (λ j. k (v .number-is ∙ j)))) ∙ o
 
   module _ (words words′ room : List ℕ) where
     pub words-taken : (n : ℕ) (a : List ℕ) (n′ : ℕ) (after a′ : List ℕ) → 8 ≤ length words → 8 ≤ length words′

@@ -12,9 +12,9 @@ use Rattle.answer.specs.declared.Refusal.the-variants.{InvalidMagic}
 use Rattle.answer.specs.declared.Refused.{Refused}
 use Rattle.dss_head.specs.declared.DssType.the-variants.{Object}
 use Rattle.dss_frame.specs.declared.Rules.{Rules}
-use Rattle.dss_frame.specs.declared.Rules.the-variants.{Reader}
+use Rattle.dss_frame.specs.declared.Rules.the-variants.{Reader, Salvage}
 use Rattle.dss_frame.specs.Segments.{payloadOf, endOf, frameWalk, continuations, walkFuel}
-use Rattle.dss_frame.specs.Reading.{readAt, absorb, absorbFuel, look}
+use Rattle.dss_frame.specs.Reading.{readAt, absorb, absorbFuel, look, positionLeft}
 use Rattle.dss_measure.specs.Measure.{measuredAt}
 use Rattle.dss_measure.specs.declared.Extent.{Extent}
 use Rattle.dss_measure.specs.declared.Extent.the-variants.{Frame as Spans}
@@ -27,15 +27,13 @@ use Rattle.gateway_measure.specs.MeasureWords.{rulesOf}
 use Rattle.demands.specs.Table.{p8}
 use Rattle.demands.specs.MeasureTake.{TakenAs, MeasuresThenTakes, ByRunAlone, TakenInWords, ByRunAloneInWords}
 use Rattle.demands.proofs.MeasureTake.{gives-refuses, gives-same, by-run-alone}
-use Rattle.demands.proofs.Kept.{take-refused, taken-as-measured, taken-by-run-alone, extent-as-measured, next-frame-as-taken, exported-take-refused, exported-taken-as-measured, exported-taken-by-run-alone, exported-next-frame-as-taken}
+use Rattle.demands.proofs.Kept.{take-refused, exported-take-refused}
+use Rattle.demands.proofs.KeptRequests.{taken-as-measured, taken-by-run-alone, extent-as-measured, salvage-measure-stays, next-frame-as-taken, exported-taken-as-measured, exported-taken-by-run-alone, exported-salvage-measure-stays, exported-next-frame-as-taken}
 use Rattle.demands.proofs.KeptMeaning.{RefusedInWords}
 use Rattle.demands.proofs.KeptExamples.{lending}
+use Rattle.demands.proofs.StretchExamples.{p9}
 
--- P9, whose second segment the first absorbs: two bytes of payload, two segments, position 14
-abbrev p9 : List ℕ
-p9 = 0x00 ∷ 0x07 ∷ 0xD0 ∷ 0x03 ∷ 0x00 ∷ 0x01 ∷ 0xAA ∷ 0x00 ∷ 0x07 ∷ 0xD0 ∷ 0x53 ∷ 0x00 ∷ 0x01 ∷ 0xBB ∷ []
-
--- so much is said to be its payload's length
+-- of P9, whose second segment the first absorbs: two segments, position 14; so much is said to be its payload's length
 abbrev measured : ℕ → FrameMeasure
 measured len = record {
   header = record { length = 7; «dss_type» = Object; flags = record { chained = true; «continue_on_error» = false; «same_correlation» = false }; «correlation_id» = 1 };
@@ -95,6 +93,14 @@ next-taken κs κs′ =
     next-frame-as-taken κs κs′ (standsAt 0) (lending p9) (lending (9 ∷ 9 ∷ [])) (readOf 0 (Gives (measured 2))) (0xAA ∷ 0xBB ∷ []) (Gives (measured 2)) (0xAA ∷ 0xBB ∷ [])
     (record { answers = refl; room-is = refl }) (record { answers = refl; room-is = refl })
 
+-- `0006D1020007`: 2 at its own first byte
+abbrev own : List ℕ
+own = 0x00 ∷ 0x06 ∷ 0xD1 ∷ 0x02 ∷ 0x00 ∷ 0x07 ∷ []
+
+pub own-refused : (κs : Lfts 1) → positionLeft 0 (record { why = InvalidMagic 209; place = 0 }) ≡ 0
+unfolding measuredAt readAt absorb absorbFuel look payloadOf endOf frameWalk continuations walkFuel
+own-refused κs = salvage-measure-stays κs (lending own) 0 (record { why = InvalidMagic 209; place = 0 }) refl
+
 -- ---- in words
 
 abbrev p9-words : List ℕ
@@ -128,6 +134,11 @@ salvaged-in-words κs κs′ = (
   exported-taken-as-measured 255 (lending p8) 0 κs κs′ (lending (replicate 8 9)) (lending (replicate 8 8)) (lending []) 0 p8-words 0 [] p8-words (omega arith) (omega arith)
       (record { number-is = refl; words-are = refl }) (record { answers = record { number-is = refl; words-are = refl }; room-is = refl }),
 )
+
+pub own-refused-in-words : (κs : Lfts 2) → _≡_ {A = ℕ} 0 0
+unfolding measuredAt splice laid readAt absorb absorbFuel look payloadOf endOf frameWalk continuations walkFuel
+own-refused-in-words κs =
+    exported-salvage-measure-stays 7 (lending own) 0 (λ e. omega arith) κs (lending (replicate 8 9)) 2 (2 ∷ 0 ∷ 209 ∷ replicate 5 0) (omega arith) (record { number-is = refl; words-are = refl }) (λ e. omega arith) (λ e. omega arith)
 
 pub two-rooms-in-words : (κs κs′ : Lfts 3) → ByRunAloneInWords 0 9 needs-two (9 ∷ []) 0 p9-words (0xAA ∷ 0xBB ∷ 8 ∷ [])
 unfolding splice laid readAt absorb absorbFuel look payloadOf endOf frameWalk continuations walkFuel
@@ -174,6 +185,10 @@ module _ (measure : Rules → List ℕ → ℕ → Measured) (answer : Rules →
       let d = by-run-alone t u .done (measured 2) (measured 2) (t .enough (measured 2) e (omega arith) .0) (u .enough (measured 2) e (omega arith) .0) .1 in
       let z : _≡_ {A = ℕ} 9 8 = ap (λ (l : List ℕ). getD l 0 0) (sym (ap (take 2) i) ∙ d ∙ ap (take 2) j) in
       omega arith
+
+  -- measuring by salvage's rules refuses the head behind the frame, as the reader's do
+  pub no-other : measure Salvage p8 0 ≡ Refuses magic → ⊥
+  no-other e = let z : _≡_ {A = ℕ} 6 0 = w .own-head p8 0 magic e in omega arith
 
   -- measuring says 9
   pub no-nine : measure Reader p9 0 ≡ Refuses (noRoom 0 2 0) → ⊥

@@ -25,13 +25,13 @@ use Rattle.gateway_row.specs.RowWords as row-words
 use Rattle.gateway_row.specs.RecordBack.{cut}
 use Rattle.demands.specs.Table.{p8}
 use Rattle.demands.specs.Stretches.{FramesStood, EntriesStood, WordsStood, AnswerStood}
-use Rattle.demands.proofs.Kept.{next-read-stood, exported-next-read-stood, exported-all-read-stood, exported-salvage-stood}
+use Rattle.demands.proofs.KeptRequests.{next-read-stood, exported-next-read-stood, exported-all-read-stood, exported-salvage-stood}
 use Rattle.demands.proofs.KeptExamples.{lending, taken}
 use Rattle.demands.proofs.SalvageClauses.{lists}
 use Rattle.demands.proofs.StretchCalls.{all-stood}
 
 -- P9, whose second segment the first absorbs
-abbrev p9 : List ℕ
+abbrev pub p9 : List ℕ
 p9 = 0x00 ∷ 0x07 ∷ 0xD0 ∷ 0x03 ∷ 0x00 ∷ 0x01 ∷ 0xAA ∷ 0x00 ∷ 0x07 ∷ 0xD0 ∷ 0x53 ∷ 0x00 ∷ 0x01 ∷ 0xBB ∷ []
 
 -- where each record of a row stood

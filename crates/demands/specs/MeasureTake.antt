@@ -8,7 +8,9 @@ use Rattle.wire.specs.Bytes.{splice}
 use Rattle.answer.specs.Numbers.{numberOf}
 use Rattle.answer.specs.Rooms.{noRoom}
 use Rattle.answer.specs.declared.Refused.{Refused}
+use Rattle.dss_frame.specs.Reading.{positionLeft}
 use Rattle.dss_frame.specs.declared.Rules.{Rules}
+use Rattle.dss_frame.specs.declared.Rules.the-variants.{Salvage}
 use Rattle.dss_measure.specs.declared.FrameMeasure.{FrameMeasure}
 use Rattle.dss_measure.specs.declared.Measured.{Measured}
 use Rattle.dss_measure.specs.declared.Measured.the-variants.{Frame as Gives, Refused as Refuses}
@@ -31,6 +33,8 @@ pub record TakenAs (measured : Measured) (payload : List ℕ) (p : ℕ) (room : 
 pub record MeasuresThenTakes (measure : Rules → List ℕ → ℕ → Measured) (answer : Rules → List ℕ → ℕ → List ℕ → Measured) (after : Rules → List ℕ → ℕ → List ℕ → List ℕ) : Type 0 where
   -- "measuring gives all but 9"
   pub all-but-9 : (rules : Rules) (s : List ℕ) (p : ℕ) (why : Refused) → measure rules s p ≡ Refuses why → numberOf (why .why) ≡ 9 → ⊥
+  -- "or salvage's": by those a head behind the frame is never what is refused, and each refusal leaves the position where it was
+  pub own-head : (s : List ℕ) (p : ℕ) (why : Refused) → measure Salvage s p ≡ Refuses why → positionLeft p why ≡ p
   -- "Taking works from the run and position again and trusts no measured number from its caller": the payload is the run's, before any
   -- room is lent, and the same for every room
   pub payload : Rules → List ℕ → ℕ → List ℕ

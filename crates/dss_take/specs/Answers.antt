@@ -1,13 +1,14 @@
 -- The laws of what taking a frame answers, and of what the room then holds: a refusal, 9, and the frame.
 use Prim.Native.Nat.{ℕ, _^_, _≤_, _<_}
 use native.Mathlib.Omega.{arith}
-use mathlib.Core.Path.{_≡_, refl, sym, ap, _∙_}
+use mathlib.Core.Path.{_≡_, refl, sym, ap, subst, _∙_}
 use mathlib.Core.List.{List}
 use lib.ListN.{length}
 use borrow.Author.Tests.{le-leb, lt-leb, lt-ltb}
 use Rattle.wire.specs.Bytes.{splice}
 use Rattle.wire.specs.Laws.{pick-yes, pick-no}
 use Rattle.wire.specs.Splice.{laid-fits, laid-kept}
+use Rattle.answer.specs.Rooms.{noRoom}
 use Rattle.answer.specs.declared.Refusal.the-variants.{NoRoom}
 use Rattle.answer.specs.declared.Refused.{Refused}
 use Rattle.dss_frame.specs.declared.Rules.{Rules}
@@ -65,17 +66,22 @@ module _ {rules : Rules} {s : List ℕ} {p : ℕ} {m : FrameMeasure} (w : Measur
 
   module _ {room : List ℕ} where
     -- 9
-    pub takes-none : length room < m .«payload_len» → m .«payload_len» < 2 ^ 64
-        → Takes rules s p room (NotMeasured (record { why = NoRoom (m .«payload_len») 0; place = p })) room
-    takes-none h l =
+    pub takes-short : length room < m .«payload_len» → Takes rules s p room (NotMeasured (noRoom p (m .«payload_len») 0)) room
+    takes-short h =
         record {
           answers =
               sym
               (ap (takenOf s p (length room)) (w .is)
               ∙ pick-no _ _ (lt-leb (length payload) (length room) (omega (arith, long)))
-              ∙ ap (λ (n : ℕ). NotMeasured (record { why = NoRoom n 0; place = p })) (pick-yes _ _ (lt-ltb (length payload) (2 ^ 64) (omega (arith, long))) ∙ long));
+              ∙ ap (λ (n : ℕ). NotMeasured (noRoom p n 0)) long);
           room-is = sym (ap (roomRead s room) (w .is) ∙ laid-kept room 0 payload (omega (arith, long)));
         }
+
+    -- with its need, where that is a number of 64 bits
+    pub takes-none : length room < m .«payload_len» → m .«payload_len» < 2 ^ 64
+        → Takes rules s p room (NotMeasured (record { why = NoRoom (m .«payload_len») 0; place = p })) room
+    takes-none h l =
+        subst (λ (n : ℕ). Takes rules s p room (NotMeasured (record { why = NoRoom n 0; place = p })) room) (pick-yes _ _ (lt-ltb (m .«payload_len») (2 ^ 64) l)) (takes-short h)
 
     module _ (h : m .«payload_len» ≤ length room) where
       pub takes-fits : Fits rules s p room
