@@ -32,6 +32,14 @@ def for_programs_only():
     return {name for row in rows for name in re.findall(r"`(\w+)`", row.split("|")[1])}
 
 
+def for_crates_only():
+    """The crates whose functions others of the library share, and that no user is pointed to."""
+    return {
+        "wire", "answer", "dss_measure", "dss_row", "dss_salvage", "dss_salvage_row", "text", "lines",
+        "gateway_words", "gateway_row", "lent_rows",
+    }
+
+
 def public_functions(crate):
     """The functions of a crate that are `pub`, in the order of its files."""
     for file in sorted((CRATES / crate / "src").rglob("*.rt")):

@@ -3,7 +3,7 @@
  * request already built is changed, and a damaged run is salvaged. Plain C99, also for C++. Nothing is allocated, kept between
  * calls or shared between threads: a call touches what it is lent and nothing else, and it ends on every input.
  *
- * To link: the archives that bindings/archives makes and names, in any order. They need no other library.
+ * To link: liblattrugone.a, as `pkg-config --cflags --libs lattrugone` says. It needs no other library.
  *
  * SLICES. A slice goes as a pointer and then a length, in elements. Of the slices that are lent to one call, none that is
  * written may overlap another. A pointer to words is aligned as uint64_t is. A slice's length times its element's size is at
@@ -11,13 +11,14 @@
  * read or written through it. (The proofs speak of Rust's slices, whose pointers are never null; that NULL does no harm is tried
  * out, for every function here, by bindings/c/empty.c.)
  *
- * WORDS. A function that can refuse returns the answer's number, and lays eight words down at the start of `words`:
+ * WORDS. A function that can refuse returns the answer's number, and lays LATTRUGONE_ANSWER_WORDS words down at the start of
+ * `words`:
  *
  *     words[0]      the number again
  *     words[1]      a refusal's place; or a position where the function says so, else 0
  *     words[2] ..   a refusal's values (see below), or the result (see each function); 0 where there is no more
  *
- * Where `words` has fewer than eight, it stays as it was and only the number is known; where it has more, the others stay.
+ * Where `words` has fewer, it stays as it was and only the number is known; where it has more, the others stay.
  *
  * REFUSALS. A refusal's place is the first byte of the head, object or parameter that is refused, or for UNSOUND of what is
  * left over, or for NEVER_WHOLE of the continuation's length; for NOT_WHOLE, NO_ROOM, OUT_OF_BOUNDS, NONE and UNREADABLE it is
@@ -29,7 +30,8 @@
  * and fill mark 0, asks for the need.
  *
  * ROWS. A list goes into a row of uint64_t, one record behind the other: of frames and of salvage entries LATTRUGONE_RECORD_WORDS
- * words each, of objects and of parameters LATTRUGONE_WORDS. row_len over that is how many records have room, words beyond stay.
+ * words each, of objects and of parameters LATTRUGONE_OBJECT_WORDS. row_len over that is how many records have room, words beyond
+ * stay.
  *
  * docs/DIFFERENCES.md says where the answers differ from db2-proto's and from DRDA volume 3. bindings/c/example.c,
  * bindings/c/exact.c, bindings/c/offsets.c and bindings/c/alter.c are examples to copy.
@@ -41,18 +43,20 @@
 #include <stdint.h>
 
 #if !defined(__x86_64__) || !defined(__LP64__)
-#error "lattrugone's archives are for x86-64 with sizes of 64 bits"
+#error "lattrugone's archive is for x86-64 with sizes of 64 bits"
 #endif
 
 #ifdef __cplusplus
 extern "C" {
 #endif
 
-/* How many words an answer has, and a record of objects or parameters. */
-#define LATTRUGONE_WORDS 8
+/* The version as one number, its first part times 10,000, its second times 100 and its third: 0.1.0 is 100. */
+#define LATTRUGONE_VERSION 100
 
-/* How many words a record of frames or of salvage entries has. */
+/* How many words an answer has, a record of frames or of salvage entries, and a record of objects or parameters. */
+#define LATTRUGONE_ANSWER_WORDS 8
 #define LATTRUGONE_RECORD_WORDS 10
+#define LATTRUGONE_OBJECT_WORDS 8
 
 /* The answer's number, and in brackets the values: words[2], words[3], words[4]. */
 enum lattrugone_answer {
@@ -158,6 +162,14 @@ enum lattrugone_rules {
     LATTRUGONE_RULES_READER = 0,
     LATTRUGONE_RULES_SALVAGE = 1
 };
+
+/* ---- The library ------------------------------------------------------------------------------------------------------ */
+
+/* LATTRUGONE_VERSION of the header that the archive was made with. */
+uint32_t lattrugone_version(void);
+
+/* What an answer's number means, in plain English and the same each time. Never NULL: a number that no answer has gets a text, too. */
+const char *lattrugone_answer_text(uint64_t number);
 
 /* ---- Heads ------------------------------------------------------------------------------------------------------------ */
 

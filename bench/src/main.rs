@@ -16,7 +16,7 @@ mod objects;
 mod sizes;
 
 use frames::{measure, measure_then_take, next_frame, read_all_frames, take, write};
-use lattrugone::port::Words;
+use lattrugone::port::{Words, ANSWER_WORDS};
 use lines::{print_growth, Line, MB};
 use objects::{build, find, markers, object, parameters};
 
@@ -24,7 +24,7 @@ use objects::{build, find, markers, object, parameters};
 const CALLS: usize = 100;
 
 /// What a call of the port writes its answer into.
-const WORDS: Words = [0; 8];
+const WORDS: Words = [0; ANSWER_WORDS];
 
 /// A line's name, and what times it.
 type Plan = (&'static str, fn(&str, usize) -> Line);

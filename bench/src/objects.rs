@@ -5,7 +5,7 @@ use crate::inputs;
 use crate::lines::Line;
 use crate::{CALLS, WORDS};
 use db2_proto::ddm::{DdmBuilder, DdmObject};
-use lattrugone::port;
+use lattrugone::port::{self, OBJECT_WORDS};
 use std::hint::black_box;
 
 /// Times two calls that take less than a microsecond, each made `CALLS` times a repeat.
@@ -61,7 +61,7 @@ pub fn parameters(name: &str, repeats: usize) -> Line {
     let listed = parsed.parameters();
     let mut words = WORDS;
     let mut work = [1u8; 8];
-    let mut row = vec![1u64; 8 * listed.len()];
+    let mut row = vec![1u64; OBJECT_WORDS * listed.len()];
     assert_eq!(
         port::parameters(&parsed.data, &mut work, &mut row, &mut words),
         0

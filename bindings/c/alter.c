@@ -28,13 +28,13 @@ static size_t row_of(const char *typed, uint8_t *row)
 static size_t build(uint8_t *room, size_t room_len)
 {
     static const uint8_t one_text[] = {0x06, 0x76, 0xD0, 0x3F, 0x7F, 0xFF, 0x06, 0x71, 0xE4, 0xD0, 0x00, 0x01};
-    uint64_t words[LATTRUGONE_WORDS], *result = words + LATTRUGONE_RESULT;
+    uint64_t words[LATTRUGONE_ANSWER_WORDS], *result = words + LATTRUGONE_RESULT;
     uint8_t data[32], object[40];
 
-    if (lattrugone_builder_add_code_point(0, FDODSC, one_text, sizeof one_text, data, sizeof data, words, LATTRUGONE_WORDS) ||
-        lattrugone_builder_add_code_point(*result, FDODTA, NULL, 0, data, sizeof data, words, LATTRUGONE_WORDS) ||
-        lattrugone_builder_build(SQLDTA, *result, data, sizeof data, object, sizeof object, words, LATTRUGONE_WORDS) ||
-        lattrugone_build_dss_object(1, 0, object, *result, room, room_len, words, LATTRUGONE_WORDS))
+    if (lattrugone_builder_add_code_point(0, FDODSC, one_text, sizeof one_text, data, sizeof data, words, LATTRUGONE_ANSWER_WORDS) ||
+        lattrugone_builder_add_code_point(*result, FDODTA, NULL, 0, data, sizeof data, words, LATTRUGONE_ANSWER_WORDS) ||
+        lattrugone_builder_build(SQLDTA, *result, data, sizeof data, object, sizeof object, words, LATTRUGONE_ANSWER_WORDS) ||
+        lattrugone_build_dss_object(1, 0, object, *result, room, room_len, words, LATTRUGONE_ANSWER_WORDS))
         return 0;
     return *result;
 }
@@ -44,14 +44,14 @@ static size_t build(uint8_t *room, size_t room_len)
 static uint8_t *alter(const uint8_t *request, size_t request_len, uint16_t code_point, const uint8_t *bytes, size_t len,
                       uint64_t *words)
 {
-    if (lattrugone_change_request(request, request_len, code_point, bytes, len, NULL, 0, words, LATTRUGONE_WORDS) !=
+    if (lattrugone_change_request(request, request_len, code_point, bytes, len, NULL, 0, words, LATTRUGONE_ANSWER_WORDS) !=
         LATTRUGONE_NO_ROOM)
         return NULL;
 
     size_t need = words[LATTRUGONE_NEEDED_BYTES];
     uint8_t *room = malloc(need);
     if (room != NULL)
-        lattrugone_change_request(request, request_len, code_point, bytes, len, room, need, words, LATTRUGONE_WORDS);
+        lattrugone_change_request(request, request_len, code_point, bytes, len, room, need, words, LATTRUGONE_ANSWER_WORDS);
     return room;
 }
 
@@ -78,7 +78,7 @@ static void print_altered(const char *typed, uint8_t *altered, const uint64_t *w
 int main(void)
 {
     static const extension blocks[] = {"0412", "0430", "07001"};
-    uint64_t words[LATTRUGONE_WORDS];
+    uint64_t words[LATTRUGONE_ANSWER_WORDS];
     uint8_t request[64], row[4 + sizeof(extension)];
     size_t request_len = build(request, sizeof request), row_len = 0;
 

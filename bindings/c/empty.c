@@ -13,12 +13,12 @@ static int bad;
  * words the same each time. */
 #define ANSWERS(number, call)                                                                                                         \
     do {                                                                                                                              \
-        uint64_t known[LATTRUGONE_WORDS], words[LATTRUGONE_WORDS];                                                                    \
+        uint64_t known[LATTRUGONE_ANSWER_WORDS], words[LATTRUGONE_ANSWER_WORDS];                                                      \
         for (int way = 0; way < 4; way++) {                                                                                           \
             uint8_t byte = 0x55, *b = way & 1 ? NULL : &byte;                                                                         \
             uint64_t word = 0x55, *r = way & 1 ? NULL : &word;                                                                        \
             uint64_t *w = way & 2 ? NULL : words;                                                                                     \
-            size_t n = way & 2 ? 0 : LATTRUGONE_WORDS;                                                                                \
+            size_t n = way & 2 ? 0 : LATTRUGONE_ANSWER_WORDS;                                                                         \
             memset(words, 0, sizeof words);                                                                                           \
             (void)b;                                                                                                                  \
             (void)r;                                                                                                                  \

@@ -21,7 +21,7 @@ static uint64_t sum_of(const uint8_t *bytes, size_t len)
 
 static void print_frames(uint8_t rules, const uint8_t *run, size_t len)
 {
-    uint64_t words[LATTRUGONE_WORDS];
+    uint64_t words[LATTRUGONE_ANSWER_WORDS];
     uint8_t *payload;
     size_t at = 0;
 

@@ -53,12 +53,12 @@ static void take_refusal(uint64_t place, const uint64_t *refusal)
  * that code point would be refused, and isn't what is looked for. */
 static void print_severity(const uint8_t *data, size_t data_len)
 {
-    uint64_t found[LATTRUGONE_WORDS], number[LATTRUGONE_WORDS];
+    uint64_t found[LATTRUGONE_ANSWER_WORDS], number[LATTRUGONE_ANSWER_WORDS];
 
-    if (lattrugone_find_param(data, data_len, SVRCOD, NULL, 0, found, LATTRUGONE_WORDS) != LATTRUGONE_DONE)
+    if (lattrugone_find_param(data, data_len, SVRCOD, NULL, 0, found, LATTRUGONE_ANSWER_WORDS) != LATTRUGONE_DONE)
         return;
-    if (lattrugone_as_u16(data + found[LATTRUGONE_OBJECT_DATA_AT], found[LATTRUGONE_OBJECT_DATA_LEN], number, LATTRUGONE_WORDS) !=
-        LATTRUGONE_DONE)
+    if (lattrugone_as_u16(data + found[LATTRUGONE_OBJECT_DATA_AT], found[LATTRUGONE_OBJECT_DATA_LEN], number,
+                          LATTRUGONE_ANSWER_WORDS) != LATTRUGONE_DONE)
         return;
     printf("  severity %u\n", (unsigned)number[LATTRUGONE_RESULT]);
 }
@@ -67,12 +67,12 @@ static void print_severity(const uint8_t *data, size_t data_len)
  * than the payload, so a work area of that length is always enough. */
 static void print_objects(const uint8_t *payload, size_t len)
 {
-    uint64_t words[LATTRUGONE_WORDS];
+    uint64_t words[LATTRUGONE_ANSWER_WORDS];
     uint8_t *work = malloc(len + 1);
     size_t at = 0;
 
     while (work != NULL && len - at >= 4) {
-        if (lattrugone_object(payload, len, at, work, len, words, LATTRUGONE_WORDS) != LATTRUGONE_DONE) {
+        if (lattrugone_object(payload, len, at, work, len, words, LATTRUGONE_ANSWER_WORDS) != LATTRUGONE_DONE) {
             printf("  ");
             take_refusal(words[LATTRUGONE_PLACE], words);
             break;

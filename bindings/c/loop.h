@@ -62,14 +62,14 @@ static unsigned length_at(const struct connection *c, size_t at)
  * length 7FFF is salvage's last, where frame_end goes on. */
 static size_t salvage_end(const struct connection *c, size_t place)
 {
-    uint64_t words[LATTRUGONE_WORDS];
+    uint64_t words[LATTRUGONE_ANSWER_WORDS];
     size_t at = place;
 
     while (c->filled - at >= 32769 && length_at(c, at) == 0xFFFF)
         at += 32767; /* to the next length, which is there */
     if (at > place && c->filled - at >= 32767 && length_at(c, at) == 0x7FFF)
         return at + 32767;
-    if (lattrugone_frame_end(c->area, c->filled, place, words, LATTRUGONE_WORDS) != LATTRUGONE_DONE)
+    if (lattrugone_frame_end(c->area, c->filled, place, words, LATTRUGONE_ANSWER_WORDS) != LATTRUGONE_DONE)
         return place;
     return words[LATTRUGONE_RESULT] < place + 6 ? place + 6 : words[LATTRUGONE_RESULT];
 }
@@ -79,11 +79,11 @@ static size_t salvage_end(const struct connection *c, size_t place)
  * else: two entries are the most. Behind a length below 6 nothing can be found, whatever comes in. */
 static const char *salvage(struct connection *c, size_t place)
 {
-    uint64_t words[LATTRUGONE_WORDS], row[2 * LATTRUGONE_RECORD_WORDS];
+    uint64_t words[LATTRUGONE_ANSWER_WORDS], row[2 * LATTRUGONE_RECORD_WORDS];
     size_t end = salvage_end(c, place);
 
     if (lattrugone_salvage(c->area + c->at, end - c->at, c->room, c->room_len, row, 2 * LATTRUGONE_RECORD_WORDS, words,
-                           LATTRUGONE_WORDS) == LATTRUGONE_NO_ROOM)
+                           LATTRUGONE_ANSWER_WORDS) == LATTRUGONE_NO_ROOM)
         return lend(&c->room, &c->room_len, words[LATTRUGONE_NEEDED_BYTES]); /* then all is asked again */
 
     for (size_t i = 0; i < words[LATTRUGONE_LIST_COUNT]; i++) {
@@ -101,11 +101,11 @@ static const char *salvage(struct connection *c, size_t place)
 /* Reads a connection to its end, and says how it ended: "closed" where all is read. */
 static const char *read_connection(struct connection *c)
 {
-    uint64_t words[LATTRUGONE_WORDS];
+    uint64_t words[LATTRUGONE_ANSWER_WORDS];
     const char *ended = NULL;
 
     while (ended == NULL) {
-        uint8_t answer = lattrugone_next_frame(c->area, c->filled, c->at, c->room, c->room_len, words, LATTRUGONE_WORDS);
+        uint8_t answer = lattrugone_next_frame(c->area, c->filled, c->at, c->room, c->room_len, words, LATTRUGONE_ANSWER_WORDS);
 
         /* A chained frame may go on in segments that are still to come: it waits while the frame behind it isn't whole yet. One
          * that is never whole isn't waited for. */

@@ -51,15 +51,15 @@ static void print_entry(const uint64_t *entry)
 /* Lent nothing, the call says what it needs; lent that, it is done. Where it needs nothing, nothing stands there. */
 static int print_list(const uint8_t *run, size_t len)
 {
-    uint64_t words[LATTRUGONE_WORDS], *row = NULL;
-    uint8_t *room = NULL, answer = lattrugone_salvage(run, len, NULL, 0, NULL, 0, words, LATTRUGONE_WORDS);
+    uint64_t words[LATTRUGONE_ANSWER_WORDS], *row = NULL;
+    uint8_t *room = NULL, answer = lattrugone_salvage(run, len, NULL, 0, NULL, 0, words, LATTRUGONE_ANSWER_WORDS);
 
     if (answer == LATTRUGONE_NO_ROOM) {
         size_t room_len = words[LATTRUGONE_NEEDED_BYTES], row_len = words[LATTRUGONE_NEEDED_RECORDS] * LATTRUGONE_RECORD_WORDS;
         room = malloc(room_len + 1);
         row = malloc(row_len * sizeof *row);
         if (room != NULL && row != NULL)
-            answer = lattrugone_salvage(run, len, room, room_len, row, row_len, words, LATTRUGONE_WORDS);
+            answer = lattrugone_salvage(run, len, room, room_len, row, row_len, words, LATTRUGONE_ANSWER_WORDS);
     }
     if (answer == LATTRUGONE_DONE) {
         for (size_t i = 0; i < words[LATTRUGONE_LIST_COUNT]; i++)

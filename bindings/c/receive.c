@@ -55,9 +55,9 @@ static void take_refusal(uint64_t place, const uint64_t *refusal)
 /* All bytes at once: next_frame over the whole run, until it gives no frame. */
 static const char *read_at_once(struct connection *c)
 {
-    uint64_t words[LATTRUGONE_WORDS];
+    uint64_t words[LATTRUGONE_ANSWER_WORDS];
 
-    while (lattrugone_next_frame(c->area, c->filled, c->at, c->room, c->room_len, words, LATTRUGONE_WORDS) == LATTRUGONE_DONE) {
+    while (lattrugone_next_frame(c->area, c->filled, c->at, c->room, c->room_len, words, LATTRUGONE_ANSWER_WORDS) == LATTRUGONE_DONE) {
         take_frame(c->at, words, c->room);
         c->at = words[LATTRUGONE_FRAME_BEHIND];
     }

@@ -1,43 +1,26 @@
-// Links the archives that `bindings/archives` makes, one for each crate that exports: from the folder that LATTRUGONE_LIB names,
-// or from target/staticlib of the repository that this crate stands in.
+// Links liblattrugone.a: from the folder that LATTRUGONE_LIB names, or from where it stands beside this crate, lib where both were
+// unpacked together, target/staticlib in the repository.
 use std::{env, path::PathBuf};
 
-const ARCHIVES: [&str; 11] = [
-    "gateway",
-    "gateway_writer",
-    "gateway_reader",
-    "gateway_measure",
-    "gateway_take",
-    "gateway_frames",
-    "gateway_salvage",
-    "gateway_object",
-    "gateway_object_rows",
-    "gateway_builder",
-    "gateway_change",
-];
+const ARCHIVE: &str = "liblattrugone.a";
 
 fn main() {
     println!("cargo:rerun-if-env-changed=LATTRUGONE_LIB");
-    let folder = env::var_os("LATTRUGONE_LIB").map_or_else(
-        || {
-            PathBuf::from(concat!(
-                env!("CARGO_MANIFEST_DIR"),
-                "/../../target/staticlib"
-            ))
-        },
-        PathBuf::from,
-    );
-    println!("cargo:rustc-link-search=native={}", folder.display());
-    for name in ARCHIVES {
-        let archive = folder.join(format!("lib{name}.a"));
-        if !archive.exists() {
-            panic!(
-                "{} isn't there: `bindings/archives`, run at the repository's root, makes all archives in target/staticlib; \
-                 LATTRUGONE_LIB names another folder that has them",
-                archive.display()
-            );
-        }
-        println!("cargo:rerun-if-changed={}", archive.display());
-        println!("cargo:rustc-link-lib=static={name}");
+    let root = PathBuf::from(concat!(env!("CARGO_MANIFEST_DIR"), "/../.."));
+    let folder = match env::var_os("LATTRUGONE_LIB") {
+        Some(folder) => PathBuf::from(folder),
+        None if root.join("lib").join(ARCHIVE).exists() => root.join("lib"),
+        None => root.join("target/staticlib"),
+    };
+    let archive = folder.join(ARCHIVE);
+    if !archive.exists() {
+        panic!(
+            "{} isn't there: `make`, run at the repository's root, makes it in target/staticlib; LATTRUGONE_LIB names another folder \
+             that has it",
+            archive.display()
+        );
     }
+    println!("cargo:rerun-if-changed={}", archive.display());
+    println!("cargo:rustc-link-search=native={}", folder.display());
+    println!("cargo:rustc-link-lib=static=lattrugone");
 }

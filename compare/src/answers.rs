@@ -3,13 +3,12 @@
 use crate::hex;
 use crate::lent::Lent;
 use db2_proto::ProtoError;
+pub use lattrugone::port::{Words, ANSWER_WORDS};
 use std::fmt::{Debug, Formatter};
-
-pub type Words = [u64; 8];
 
 /// Done, with a result of up to six words.
 pub fn done(result: &[u64]) -> Words {
-    let mut words = [0; 8];
+    let mut words = [0; ANSWER_WORDS];
     words[2..2 + result.len()].copy_from_slice(result);
     words
 }
@@ -65,11 +64,11 @@ impl Debug for Bytes {
     }
 }
 
-/// What the port should come to where `words` words are lent: eight are laid down where there are eight.
+/// What the port should come to where `words` words are lent: an answer's are laid down where they have room.
 pub fn expected(answer: Words, words: usize) -> Answer {
     Answer {
         number: answer[0] as u8,
-        words: if words < 8 {
+        words: if words < ANSWER_WORDS {
             Vec::new()
         } else {
             answer.to_vec()
@@ -84,10 +83,10 @@ pub fn expected(answer: Words, words: usize) -> Answer {
 pub fn answered(lent: &mut Lent<u64>, words: usize, call: impl FnOnce(&mut [u64]) -> u8) -> Answer {
     let lent_words = lent.lend(words);
     let number = call(lent_words);
-    let laid = if words < 8 {
+    let laid = if words < ANSWER_WORDS {
         Vec::new()
     } else {
-        lent_words[..8].to_vec()
+        lent_words[..ANSWER_WORDS].to_vec()
     };
     let rest_kept = lent.holds_only(0, &laid);
     Answer {

@@ -1,7 +1,7 @@
 //! Module 1 of document 01: heads, parsed and written. The port's functions against the Rust's DssHeader.
 pub mod record;
 
-use crate::answers::{answered, done, expected, of_error, refused, Answer, Words};
+use crate::answers::{answered, done, expected, of_error, refused, Answer, Words, ANSWER_WORDS};
 use crate::lent::Lent;
 use crate::port::{self, Head};
 use crate::{five, By, Chance, Tally};
@@ -65,16 +65,21 @@ fn parse(tally: &mut Tally, lent: &mut Buffers, bytes: &[u8], words: usize) {
 fn parsed(tally: &mut Tally, lent: &mut Buffers) {
     for number in 0..=u16::MAX {
         let [high, low] = number.to_be_bytes();
-        parse(tally, lent, &[high, low, 0xD0, 0x42, 0, 7], 8);
-        parse(tally, lent, &[0, 10, 0xD0, 0x13, high, low], 8);
-        parse(tally, lent, &[0, 6, high, low, 1, 2], 8);
-        parse(tally, lent, &[high, low, low, high, high, low], 8);
+        parse(tally, lent, &[high, low, 0xD0, 0x42, 0, 7], ANSWER_WORDS);
+        parse(tally, lent, &[0, 10, 0xD0, 0x13, high, low], ANSWER_WORDS);
+        parse(tally, lent, &[0, 6, high, low, 1, 2], ANSWER_WORDS);
+        parse(
+            tally,
+            lent,
+            &[high, low, low, high, high, low],
+            ANSWER_WORDS,
+        );
     }
     for magic in [0xD0, 0xD1] {
         for format in [2, 5, 6] {
             let bytes = [0xFF, 0xFF, magic, format, 3, 4, 5, 6, 7];
             for len in 0..=bytes.len() {
-                parse(tally, lent, &bytes[..len], 8);
+                parse(tally, lent, &bytes[..len], ANSWER_WORDS);
             }
         }
     }
@@ -149,26 +154,26 @@ fn serialized(tally: &mut Tally, lent: &mut Buffers) {
         let correlation_id = [0, 1, 255, 256, 65535][which / 320];
         let head = head(length, dss_type, flags, correlation_id);
         for room in 0..=8 {
-            serialize(tally, lent, head, room, 8);
+            serialize(tally, lent, head, room, ANSWER_WORDS);
         }
         let bytes = lent.room.part(0, 6).to_vec();
         let written = head_of(head).expect("a type");
         let (by, due) = head_words(&written);
         let read = head_words(&bytes).1;
         tally.held(by, "head_serialize, read", &bytes, read, due);
-        parse(tally, lent, &bytes, 8);
+        parse(tally, lent, &bytes, ANSWER_WORDS);
     }
     for number in 0..=u16::MAX {
         let [high, low] = number.to_be_bytes();
-        serialize(tally, lent, head(number, 3, 0x50, 7), 6, 8);
-        serialize(tally, lent, head(10, 4, 0x20, number), 7, 8);
-        serialize(tally, lent, head(10, high, low, 7), 8, 8);
+        serialize(tally, lent, head(number, 3, 0x50, 7), 6, ANSWER_WORDS);
+        serialize(tally, lent, head(10, 4, 0x20, number), 7, ANSWER_WORDS);
+        serialize(tally, lent, head(10, high, low, 7), 8, ANSWER_WORDS);
     }
 }
 
 // ---- words, and random inputs
 
-/// Fewer than eight words stay as they are, and of more only eight are laid down.
+/// Fewer words than an answer has stay as they are, and of more only so many are laid down.
 fn few_words(tally: &mut Tally, lent: &mut Buffers) {
     for words in 0..=12 {
         parse(tally, lent, &[0, 6, 0xD0, 0x52, 1, 2], words);
@@ -192,12 +197,18 @@ fn random(tally: &mut Tally, lent: &mut Buffers, chance: &mut Chance) {
         bytes[2] = 0xD0;
     }
     let len = 4 + chance.below(9);
-    parse(tally, lent, &bytes[..len], 8 + chance.below(3));
+    parse(tally, lent, &bytes[..len], ANSWER_WORDS + chance.below(3));
     let head = head(
         chance.next() as u16,
         chance.byte() % 0x26,
         chance.byte(),
         chance.next() as u16,
     );
-    serialize(tally, lent, head, chance.below(11), 8 + chance.below(3));
+    serialize(
+        tally,
+        lent,
+        head,
+        chance.below(11),
+        ANSWER_WORDS + chance.below(3),
+    );
 }

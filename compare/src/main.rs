@@ -1,7 +1,7 @@
 //! Holds the port to the running Rust, and what the Rust doesn't have to document 01: the same input to both, and the answers,
 //! the words and every byte of each lent buffer compared; and the crate `lattrugone` to db2-proto, name by name (names.rs).
 //! `compare [CASES] [SEED]`: how many random inputs each part tries besides those that it tries one and all, and which ones.
-//! `compare --record FILE` records the Rust's answers (record.rs).
+//! `compare --record FILE FILE` records the Rust's answers (record.rs).
 mod answers;
 mod change;
 mod ddm;
@@ -207,20 +207,21 @@ fn argument(place: usize, otherwise: u64) -> u64 {
     }
 }
 
-/// `compare --record FILE`.
-fn record_list() -> ! {
-    let Some(path) = std::env::args().nth(2) else {
-        eprintln!("compare: --record wants a file");
+/// `compare --record FILE FILE`.
+fn record_lists() -> ! {
+    let paths: Vec<String> = std::env::args().skip(2).collect();
+    let Ok(paths) = paths.try_into() else {
+        eprintln!("compare: --record wants two files");
         std::process::exit(2);
     };
-    record::record(&mut Tally::default(), &path);
+    record::record(&mut Tally::default(), &paths);
     std::process::exit(0);
 }
 
 fn main() {
     stops::silence();
     if std::env::args().nth(1).as_deref() == Some("--record") {
-        record_list();
+        record_lists();
     }
     let cases = argument(1, 1_000_000);
     let seed = argument(2, 1);

@@ -11,6 +11,7 @@ pub mod rust;
 pub mod short;
 pub mod walk;
 
+use crate::answers::ANSWER_WORDS;
 use crate::{Chance, Tally};
 use case::{Held, MOST};
 
@@ -73,12 +74,12 @@ fn positions(tally: &mut Tally, held: &mut Held) {
     for run in PAPER {
         let far = [1 << 32, 1 << 63, usize::MAX - 6, usize::MAX - 1, usize::MAX];
         for at in (0..run.len() + 8).chain(far) {
-            held.hold_at(tally, run, at, 8);
+            held.hold_at(tally, run, at, ANSWER_WORDS);
         }
     }
 }
 
-/// Fewer than eight words stay as they are, and of more only eight are laid down: done, and each refusal.
+/// Fewer words than an answer has stay as they are, and of more only so many are laid down: done, and each refusal.
 fn few_words(tally: &mut Tally, held: &mut Held) {
     for words in 0..=12 {
         for run in PAPER {
@@ -111,7 +112,12 @@ fn random(tally: &mut Tally, held: &mut Held, chance: &mut Chance) {
         }
         1..=4 => held.hold_at(tally, bytes, run.place(chance, 9), 6 + chance.below(5)),
         5..=8 => held.hold_arriving(tally, bytes, chance.below(bytes.len() + 1)),
-        9 => held.hold_at(tally, bytes, bytes.len() + 1 + chance.below(9), 8),
+        9 => held.hold_at(
+            tally,
+            bytes,
+            bytes.len() + 1 + chance.below(9),
+            ANSWER_WORDS,
+        ),
         _ => (),
     }
 }

@@ -1,7 +1,8 @@
-//! The Rust's answers as a list, for the crate replay to make the same calls in the gate, where no Rust is: `compare --record
-//! FILE` writes it, always the same. Where the Rust has no answer, the documents' stands, as in the comparison.
+//! The Rust's answers as two lists, to make the same calls again where the Rust's text isn't: of the exported calls, for a test of
+//! the bindings, and of the others, for the crate replay. `compare --record FILE FILE` writes them, always the same. Where the Rust
+//! has no answer, the documents' stands, as in the comparison.
 //!
-//! The list is numbers: how many answers, then each of them. A number below 248 is one byte; any other is 247 and how many bytes
+//! A list is numbers: how many answers, then each of them. A number below 248 is one byte; any other is 247 and how many bytes
 //! it has, then these, most significant first. An answer is what is asked (the call's number, four numbers, the lengths of room,
 //! row and words, the input) and what it comes to (what the call returns, twelve words, the sum of the room, that of the row).
 //! Before a call all bytes of the room are A5 and all words of words and row 90, so bytes and words that a call has to leave
@@ -9,7 +10,7 @@
 mod input;
 pub mod structs;
 
-use crate::answers::Answer;
+use crate::answers::{Answer, ANSWER_WORDS};
 use crate::reader::walk::{walk, Walked};
 use crate::{ddm, head, reader, salvage, writer, Chance, Tally};
 pub use input::counted;
@@ -22,13 +23,16 @@ const WORD: u64 = 90;
 /// So many words are recorded, also where fewer are lent.
 const WORDS: usize = 12;
 
-/// Fewer than eight words stay as they are, and of more only eight are laid down: so many are lent, where not eight.
-pub const FEW_WORDS: [usize; 5] = [0, 1, 7, 9, 12];
+/// Fewer words than an answer has stay as they are, and of more only so many are laid down: this many are lent, where others.
+pub const FEW_WORDS: [usize; 5] = [0, 1, ANSWER_WORDS - 1, ANSWER_WORDS + 1, 12];
 
 /// What replay has place for.
 const BYTES: usize = 147_456;
 const ROW: usize = 512;
 const LIST: usize = 655_360;
+
+/// From this number on no exported function makes the call.
+const OTHERS: u64 = 160;
 
 /// The calls' numbers, each with how many there are.
 const CALLS: [(u64, u64); 12] = [
@@ -58,7 +62,7 @@ pub struct Asked<'a> {
 }
 
 impl<'a> Asked<'a> {
-    /// A call with some numbers and an input; no room, no row and eight words.
+    /// A call with some numbers and an input; no room, no row and an answer's words.
     pub fn new(call: u64, numbers: &[u64], input: &'a [u8]) -> Asked<'a> {
         let mut four = [0; 4];
         four[..numbers.len()].copy_from_slice(numbers);
@@ -68,7 +72,7 @@ impl<'a> Asked<'a> {
             input,
             room: 0,
             row: 0,
-            words: 8,
+            words: ANSWER_WORDS,
         }
     }
 
@@ -112,10 +116,17 @@ impl<'a> Asked<'a> {
     }
 }
 
-/// The answers recorded so far.
-pub struct List {
+/// One list: its answers, and how many they are.
+#[derive(Default)]
+struct Part {
     bytes: Vec<u8>,
     count: u64,
+}
+
+/// The answers recorded so far.
+pub struct List {
+    /// Of the exported calls, and of the others.
+    parts: [Part; 2],
     asked: HashSet<Vec<u8>>,
     /// How often each call was recorded, and how often each answer number.
     calls: BTreeMap<u64, u64>,
@@ -178,8 +189,9 @@ impl List {
         let mut all_row = vec![WORD; asked.row];
         all_row[..row.len()].copy_from_slice(row);
         put(&mut bytes, sum(all_row.into_iter()));
-        self.bytes.extend(bytes);
-        self.count += 1;
+        let part = &mut self.parts[(asked.call >= OTHERS) as usize];
+        part.bytes.extend(bytes);
+        part.count += 1;
         *self.calls.entry(asked.call).or_default() += 1;
         let at = asked.frame_at(words).unwrap_or(u64::MAX) as usize;
         let rest = asked.input.get(at..).unwrap_or_default();
@@ -219,11 +231,10 @@ pub fn sum(units: impl ExactSizeIterator<Item = u64>) -> u64 {
     })
 }
 
-/// Records the list into a file; what the Rust says is held to the documents on the way, as in the comparison.
-pub fn record(tally: &mut Tally, path: &str) {
+/// Records the lists into two files; what the Rust says is held to the documents on the way, as in the comparison.
+pub fn record(tally: &mut Tally, paths: &[String; 2]) {
     let mut list = List {
-        bytes: Vec::new(),
-        count: 0,
+        parts: Default::default(),
         asked: HashSet::new(),
         calls: BTreeMap::new(),
         numbers: BTreeMap::new(),
@@ -240,10 +251,13 @@ pub fn record(tally: &mut Tally, path: &str) {
     println!("at a continuation length of 0 or 1: {:?}", list.dead);
     assert!(tally.different == 0, "the documents and the Rust differ");
     assert!(list.is_full(), "a call or an answer doesn't occur");
-    let mut bytes = Vec::new();
-    put(&mut bytes, list.count);
-    bytes.extend(&list.bytes);
-    println!("{} answers in {} bytes", list.count, bytes.len());
-    assert!(bytes.len() < LIST, "replay has no place for so long a list");
-    std::fs::write(path, &bytes).expect("a file that can be written");
+    for (part, path) in list.parts.iter().zip(paths) {
+        let mut bytes = Vec::new();
+        put(&mut bytes, part.count);
+        bytes.extend(&part.bytes);
+        println!("{} answers in {} bytes", part.count, bytes.len());
+        std::fs::write(path, &bytes).expect("a file that can be written");
+    }
+    let others = list.parts[1].bytes.len();
+    assert!(others < LIST, "replay has no place for so long a list");
 }

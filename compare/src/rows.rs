@@ -1,16 +1,10 @@
-//! Calls that list all that a run has: payloads end to end in a lent room, records in a lent row, ten words each of frames and of
-//! salvage entries, eight of objects and parameters. Each is made in a room and a row that are just enough, and in turn in ones that
-//! are short by a byte, a word or a record, longer, or empty.
-use crate::answers::{answered, done, expected, refused, Answer, Words};
+//! Calls that list all that a run has: payloads end to end in a lent room, records in a lent row. Each is made in a room and a row
+//! that are just enough, and in turn in ones that are short by a byte, a word or a record, longer, or empty.
+use crate::answers::{answered, done, expected, refused, Answer, Words, ANSWER_WORDS};
 use crate::lent::Lent;
 use crate::port::RowLoan;
 use crate::{By, Tally};
-
-/// How many words a record of frames or of salvage entries has.
-pub const RECORD_WORDS: usize = 10;
-
-/// Such a record.
-pub type Record = [u64; RECORD_WORDS];
+pub use lattrugone::port::{Record, OBJECT_WORDS, RECORD_WORDS};
 
 /// What is listed, in records of so many words.
 pub enum Listed<const WIDTH: usize> {
@@ -24,11 +18,11 @@ pub enum Listed<const WIDTH: usize> {
     Refused(Words),
 }
 
-/// A record: its eight words, and document 02, W-201, "the first byte and the byte after the last one in the run".
+/// A record: an answer's words, and document 02, W-201, "the first byte and the byte after the last one in the run".
 pub fn record(words: Words, from: usize, end: usize) -> Record {
     let mut record = [0; RECORD_WORDS];
-    record[..8].copy_from_slice(&words);
-    record[8..].copy_from_slice(&[from as u64, end as u64]);
+    record[..ANSWER_WORDS].copy_from_slice(&words);
+    record[ANSWER_WORDS..].copy_from_slice(&[from as u64, end as u64]);
     record
 }
 

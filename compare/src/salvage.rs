@@ -5,7 +5,7 @@ pub mod model;
 pub mod record;
 mod runs;
 
-use crate::answers::{done, refused, Words};
+use crate::answers::{done, refused, Words, ANSWER_WORDS};
 use crate::lent::Lent;
 use crate::measure::Pair;
 use crate::reader::rust::Read;
@@ -54,7 +54,7 @@ struct Held {
 impl Held {
     /// Holds the port to the model on a run.
     fn hold(&mut self, tally: &mut Tally, run: &[u8]) {
-        self.hold_in(tally, run, 8)
+        self.hold_in(tally, run, ANSWER_WORDS)
     }
 
     /// The same with so many words lent.

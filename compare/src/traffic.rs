@@ -3,8 +3,9 @@
 //! to the frames by DRDA volume 3's rule alone (`splitter.txt`), but for the frames of `misread.txt`. Where a last chunk is full, the
 //! two part, and some capture has to have one. And the same with each continuation length spoilt in turn, to 0 and to 1: 16, where
 //! the splitter has that length.
+use crate::answers::ANSWER_WORDS;
 use crate::port::RowLoan;
-use crate::rows::RECORD_WORDS;
+use crate::rows::{OBJECT_WORDS, RECORD_WORDS};
 use crate::{port, By, Tally};
 use std::fs;
 use std::path::Path;
@@ -119,12 +120,12 @@ fn as_read(split: Vec<Frame>, misread: &[Frame]) -> Vec<Frame> {
 /// The objects of a payload as the lists write them: code point and length of the data; or the refusal's number.
 fn objects(payload: &[u8]) -> String {
     let mut work = vec![0; payload.len()];
-    let mut row = vec![0; 8 * (payload.len() / 4 + 1)];
-    let mut words = [0; 8];
+    let mut row = vec![0; OBJECT_WORDS * (payload.len() / 4 + 1)];
+    let mut words = [0; ANSWER_WORDS];
     if port::objects(payload, &mut work, &mut row, &mut words) != 0 {
         return format!("refused {}", words[0]);
     }
-    let records = row.chunks(8).take(words[2] as usize);
+    let records = row.chunks(OBJECT_WORDS).take(words[2] as usize);
     let each: Vec<String> = records.map(|r| format!("{:04X}:{}", r[2], r[5])).collect();
     each.join(",")
 }
@@ -140,7 +141,7 @@ fn listed_objects(text: &str) -> String {
 /// A run read frame by frame, up to an answer that isn't 0: the frames, their objects; the position, that answer and its place.
 fn read(run: &[u8]) -> (Vec<(Frame, String)>, [u64; 3]) {
     let mut room = vec![0; run.len()];
-    let mut words = [0; 8];
+    let mut words = [0; ANSWER_WORDS];
     let mut frames = Vec::new();
     let mut at = 0;
     loop {
@@ -168,7 +169,7 @@ fn read(run: &[u8]) -> (Vec<(Frame, String)>, [u64; 3]) {
 fn salvaged(run: &[u8]) -> (Vec<Frame>, u64) {
     let mut room = vec![0; run.len()];
     let mut row = vec![0; RECORD_WORDS * (run.len() / 6 + 1)];
-    let mut words = [0; 8];
+    let mut words = [0; ANSWER_WORDS];
     let answer = port::salvage(RowLoan {
         run,
         room: &mut room,

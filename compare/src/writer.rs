@@ -5,6 +5,7 @@ mod case;
 pub mod record;
 mod sizes;
 
+use crate::answers::ANSWER_WORDS;
 use crate::port;
 use crate::{Chance, Tally};
 use both::one_behind_the_other;
@@ -110,7 +111,7 @@ fn marks(tally: &mut Tally, held: &mut Held) {
                         fill,
                         from: room,
                         len,
-                        words: 8,
+                        words: ANSWER_WORDS,
                     };
                     let frame = case.frame(held);
                     case.hold_in(tally, held, &frame, room);
@@ -120,7 +121,7 @@ fn marks(tally: &mut Tally, held: &mut Held) {
     }
 }
 
-/// Fewer than eight words stay as they are, and of more only eight are laid down: done, and each refusal.
+/// Fewer words than an answer has stay as they are, and of more only so many are laid down: done, and each refusal.
 fn few_words(tally: &mut Tally, held: &mut Held) {
     for words in 0..=12 {
         for call in and_no_type() {
@@ -135,7 +136,7 @@ fn few_words(tally: &mut Tally, held: &mut Held) {
             case.hold(tally, held, &[-1, 0, 1]);
             if !call.builds() {
                 let frame = case.frame(held);
-                case.hold_in(tally, held, &frame, 8);
+                case.hold_in(tally, held, &frame, ANSWER_WORDS);
             }
         }
     }

@@ -1,4 +1,4 @@
-//! DRDA's framing: the modules `dss` and `ddm` of db2-proto by their names and shapes, over Lattrugone's archives, whose
+//! DRDA's framing: the modules `dss` and `ddm` of db2-proto by their names and shapes, over Lattrugone's archive, whose
 //! functions are proved. A caller of db2-proto changes the lines that name where things come from; README says what else:
 //!
 //! ```
@@ -38,11 +38,11 @@
 //!   payload in room of the caller's own; by the reader's rules or by salvage's.
 //! - [`dss::DssReader::position`], and [`dss::DssReader::next_frame_counted`], which says of how many segments a frame is.
 //! - [`dss::change_request`] changes one parameter of a request already built, [`ddm::DdmObject::with_param`] one of an object.
-//! - [`port`]: the archives' functions as they are, for a caller that lends its own room and wants nothing allocated.
+//! - [`port`]: the archive's functions as they are, for a caller that lends its own room and wants nothing allocated.
 //!
 //! # What is proved
 //!
-//! The archives' functions: what each answers, what it leaves in lent room, that it ends and touches nothing else. They allocate
+//! The archive's functions: what each answers, what it leaves in lent room, that it ends and touches nothing else. They allocate
 //! nothing: this crate asks them how much room a result needs, allocates that, lends it, and turns their words into these types
 //! and texts. That Rust isn't proved; it is tested, and `compare/run` holds it to db2-proto name by name.
 #![deny(unsafe_code)]
@@ -53,7 +53,7 @@
     target_pointer_width = "64",
     target_os = "linux"
 )))]
-compile_error!("the archives are for x86-64 Linux");
+compile_error!("the archive is for x86-64 Linux");
 
 #[cfg(doctest)]
 mod callers;

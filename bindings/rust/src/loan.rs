@@ -1,12 +1,12 @@
 //! What is lent to a call: room for its result, and words for its answer.
 use crate::error::Refusal;
-use crate::port::{Words, WORDS};
+use crate::port::{Words, ANSWER_WORDS};
 
 type Answer<T> = std::result::Result<T, Refusal>;
 
 /// Makes a call that needs no room.
 pub(crate) fn ask(call: impl FnOnce(&mut [u64]) -> u8) -> Answer<Words> {
-    let mut words = [0; WORDS];
+    let mut words = [0; ANSWER_WORDS];
     match call(&mut words) {
         0 => Ok(words),
         _ => Err(Refusal(words)),
@@ -31,9 +31,9 @@ pub(crate) fn built(call: impl FnMut(&mut Loan) -> u8) -> Vec<u8> {
 }
 
 /// The room and the row of a call that was done, with just as much as it needed, and its answer's words. A record of the row has so
-/// many words.
+/// many words, 0 where the call has no row.
 #[derive(Default)]
-pub(crate) struct Loan<const WIDTH: usize = WORDS> {
+pub(crate) struct Loan<const WIDTH: usize = 0> {
     pub room: Vec<u8>,
     pub row: Vec<u64>,
     pub words: Words,
@@ -48,7 +48,7 @@ impl<const WIDTH: usize> Loan<WIDTH> {
                 let loan = Self {
                     room: vec![0; bytes as usize],
                     row: vec![0; (records as usize).saturating_mul(WIDTH)],
-                    words: [0; WORDS],
+                    words: [0; ANSWER_WORDS],
                 };
                 loan.after(&mut call)
             }

@@ -1,23 +1,26 @@
-//! The archives' functions as they are: numbers and slices in, an answer's number out, eight words at the start of `words`. What
+//! The archive's functions as they are: numbers and slices in, an answer's number out, an answer's words at the start of `words`. What
 //! each reads, writes and answers stands in `include/lattrugone.h`. Nothing is allocated. Here is all of this crate's `unsafe`.
 
-/// How many words an answer has, and a record of objects or parameters.
-pub const WORDS: usize = 8;
+/// How many words an answer has.
+pub const ANSWER_WORDS: usize = 8;
 
-/// An answer's words.
-pub type Words = [u64; WORDS];
-
-/// How many words a record of frames or of salvage entries has: eight, its first byte, and the byte after its last.
+/// How many words a record of frames or of salvage entries has: an answer's, its first byte, and the byte after its last.
 pub const RECORD_WORDS: usize = 10;
 
-/// The words of such a record.
+/// How many words a record of objects or parameters has.
+pub const OBJECT_WORDS: usize = 8;
+
+/// An answer's words.
+pub type Words = [u64; ANSWER_WORDS];
+
+/// The words of a record of frames or of salvage entries.
 pub type Record = [u64; RECORD_WORDS];
 
-// Declares each function as the archives export it, where a slice goes as its pointer and then its length, and a safe function
+// Declares each function as the archive exports it, where a slice goes as its pointer and then its length, and a safe function
 // of the same name that takes the slice. It goes through the arguments one by one and gathers three things in brackets: the safe
 // function's arguments, the exported one's, and what is handed on.
 //
-// Why the call is sound. A function in the archives asks of its caller that each pointer and length are those of a slice and
+// Why the call is sound. A function in the archive asks of its caller that each pointer and length are those of a slice and
 // that no two overlap of which one is written, and nothing more: it is proved to end, to touch nothing else and to do nothing
 // undefined for every such call (no exported function has a `requires`). Here each pointer and length come from a slice that is
 // borrowed for the call, `&mut` where it is written, and the compiler sees to it that such borrows don't overlap. The words and

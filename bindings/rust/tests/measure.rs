@@ -2,7 +2,7 @@
 mod common;
 use common::{full_segments, hex, pattern, Numbers};
 use lattrugone::dss::{build_dss_object, salvage, DssReader, DssType, DssWriter, Entry, Rules};
-use lattrugone::port::{self, WORDS};
+use lattrugone::port::{self, ANSWER_WORDS};
 use lattrugone::ProtoError::{InvalidMagic, LengthTooShort, NoRoom};
 
 const RULES: [Rules; 2] = [Rules::Reader, Rules::Salvage];
@@ -174,8 +174,8 @@ fn a_frame_that_isnt_whole_is_none_yet_or_ever() {
 
 /// Any number but 0 is salvage's; 1 and 16 are told apart, 16 with its place; and a position beyond the run is 10.
 #[test]
-fn the_archives_functions() {
-    let mut words = [0; WORDS];
+fn functions_of_the_archive() {
+    let mut words = [0; ANSWER_WORDS];
     let p8 = hex("0006 D002 0007 0000 0000 0000");
     for rules in 0..=255 {
         let number = port::measure_frame(rules, &p8, 0, &mut words);

@@ -1,18 +1,18 @@
-//! The archives' functions as they are: what a caller that lends its own room meets.
+//! The archive's functions as they are: what a caller that lends its own room meets.
 mod common;
 use common::{full_segments, hex, pattern};
 use lattrugone::ddm::{build_ddm_object, DdmObject};
 use lattrugone::dss::build_dss_object;
-use lattrugone::port::{self, Words, RECORD_WORDS, WORDS};
+use lattrugone::port::{self, Words, ANSWER_WORDS, OBJECT_WORDS, RECORD_WORDS};
 
 const KEPT: u64 = 0xAAAA;
 
 /// Makes a call with eight words and hands those out; the number is the first.
 fn words(call: impl FnOnce(&mut [u64]) -> u8) -> Words {
-    let mut lent = [KEPT; WORDS + 1];
+    let mut lent = [KEPT; ANSWER_WORDS + 1];
     let number = call(&mut lent);
-    assert_eq!((number as u64, lent[WORDS]), (lent[0], KEPT));
-    lent[..WORDS].try_into().unwrap()
+    assert_eq!((number as u64, lent[ANSWER_WORDS]), (lent[0], KEPT));
+    lent[..ANSWER_WORDS].try_into().unwrap()
 }
 
 #[test]
@@ -46,13 +46,16 @@ fn bytes_beside_the_result_stay() {
 
 #[test]
 fn fewer_than_eight_words_stay() {
-    let mut lent = [KEPT; WORDS - 1];
+    let mut lent = [KEPT; ANSWER_WORDS - 1];
     assert_eq!(port::type_from_byte(6, &mut lent), 3);
     assert_eq!(
         port::next_frame(&hex("0006D0020007"), 0, &mut [], &mut lent),
         0
     );
-    assert_eq!((port::as_u16(&[], &mut []), lent), (11, [KEPT; WORDS - 1]));
+    assert_eq!(
+        (port::as_u16(&[], &mut []), lent),
+        (11, [KEPT; ANSWER_WORDS - 1])
+    );
 }
 
 #[test]
@@ -94,13 +97,13 @@ fn a_mark_beyond_its_room_comes_before_no_type() {
 #[test]
 fn places_in_a_list_of_objects() {
     let run = hex("0004200D 00032412");
-    let all = words(|w| port::objects(&run, &mut [], &mut [KEPT; 16], w));
+    let all = words(|w| port::objects(&run, &mut [], &mut [KEPT; 2 * OBJECT_WORDS], w));
     assert_eq!(all, [5, 4, 3, 4, 0x2412, 0, 0, 0]);
-    let mut row = [KEPT; 16];
+    let mut row = [KEPT; 2 * OBJECT_WORDS];
     let list = words(|w| port::parameters(&run, &mut [], &mut row, w));
     assert_eq!(list, [0, 0, 1, 0, 0, 0, 0, 0]);
-    assert_eq!(row[..WORDS], [0, 0, 0x200D, 0, 4, 0, 4, 0]);
-    assert_eq!(row[WORDS..], [KEPT; WORDS]);
+    assert_eq!(row[..OBJECT_WORDS], [0, 0, 0x200D, 0, 4, 0, 4, 0]);
+    assert_eq!(row[OBJECT_WORDS..], [KEPT; OBJECT_WORDS]);
 }
 
 #[test]
@@ -304,13 +307,13 @@ fn a_changed_request() {
     assert_eq!(full, [18, 0, 0, 0, 0, 0, 0, 0]);
     let cut = words(|w| port::change_request(&frame[..14], 0x2412, &[], &mut room, w));
     assert_eq!(cut, [1, 0, 0, 0, 0, 0, 0, 0]);
-    let mut few = [KEPT; WORDS - 1];
+    let mut few = [KEPT; ANSWER_WORDS - 1];
     assert_eq!(
         port::change_request(&frame, 0x2412, &[], &mut [0; 14], &mut few),
         0
     );
     assert_eq!(
         (port::change_param_len(&[], 0x2412, 0, &mut few), few),
-        (11, [KEPT; WORDS - 1])
+        (11, [KEPT; ANSWER_WORDS - 1])
     );
 }

@@ -1,7 +1,7 @@
 //! One call on one input: in a room that is just enough, one that is short by one, a longer one, an empty one.
 use super::model::{self, Due};
 use super::rust;
-use crate::answers::{answered, done, expected, refused, Answer};
+use crate::answers::{answered, done, expected, refused, Answer, ANSWER_WORDS};
 use crate::lent::Lent;
 use crate::port;
 use crate::{shown, By, Tally};
@@ -91,7 +91,7 @@ impl Held {
             room: Lent::new(MOST),
             words: Lent::new(64),
             turn: 0,
-            lent_words: 8,
+            lent_words: ANSWER_WORDS,
         }
     }
 

@@ -3,7 +3,7 @@
 use super::case::{Case, Held};
 use super::values::{changed, code_point, data, value, values, Values};
 use super::{model, rust};
-use crate::answers::refused;
+use crate::answers::{refused, ANSWER_WORDS};
 use crate::ddm::lists::{good, random_list, unfit};
 use crate::{By, Chance, Tally};
 
@@ -99,7 +99,7 @@ pub fn needs(tally: &mut Tally, held: &mut Held) {
     }
 }
 
-/// Fewer than eight words stay as they are, and of more only eight are laid down: done, and each refusal.
+/// Fewer words than an answer has stay as they are, and of more only so many are laid down: done, and each refusal.
 pub fn few_words(tally: &mut Tally, held: &mut Held) {
     for words in 0..=12 {
         held.lent_words = words;
@@ -111,7 +111,7 @@ pub fn few_words(tally: &mut Tally, held: &mut Held) {
             }
         }
     }
-    held.lent_words = 8;
+    held.lent_words = ANSWER_WORDS;
 }
 
 /// A random list, at times damaged and at times cut; and one that the Rust builds.
@@ -122,5 +122,5 @@ pub fn random(tally: &mut Tally, held: &mut Held, chance: &mut Chance) {
     hold(tally, held, &list, cp, &new);
     let values = values(chance, LONG);
     built(tally, held, &values, cp, &new);
-    held.lent_words = 8;
+    held.lent_words = ANSWER_WORDS;
 }

@@ -3,6 +3,7 @@
 use super::case::{Case, Held};
 use super::frames::{continued, head, sized, wide, Cut, Head};
 use super::requests::hold;
+use crate::answers::ANSWER_WORDS;
 use crate::ddm::lengths::headed;
 use crate::ddm::lists::{good, unfit};
 use crate::reader::long::each_dead;
@@ -167,7 +168,7 @@ pub fn dead(tally: &mut Tally, held: &mut Held, chance: &mut Chance) {
     each_dead(chance, |run, _| hold(tally, held, run, 0x2402, &[0xD1]));
 }
 
-/// Fewer than eight words stay as they are, and of more only eight are laid down: done, and each refusal, in rooms of each
+/// Fewer words than an answer has stay as they are, and of more only so many are laid down: done, and each refusal, in rooms of each
 /// kind.
 pub fn few_words(tally: &mut Tally, held: &mut Held) {
     let list = good()[1].clone();
@@ -194,5 +195,5 @@ pub fn few_words(tally: &mut Tally, held: &mut Held) {
         }
         hold(tally, held, &frames[1], 0x2402, &unreadable);
     }
-    held.lent_words = 8;
+    held.lent_words = ANSWER_WORDS;
 }

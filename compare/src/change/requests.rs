@@ -4,7 +4,7 @@ use super::case::{Case, Held};
 use super::frames::{cut, head, wide, written, Cut};
 use super::model::unreadable;
 use super::values::{changed, code_point, data, object, value, values, Values};
-use crate::answers::refused;
+use crate::answers::{refused, ANSWER_WORDS};
 use crate::ddm::lengths::headed;
 use crate::ddm::lists::random_list;
 use crate::{By, Chance, Tally};
@@ -134,7 +134,7 @@ pub fn random(tally: &mut Tally, held: &mut Held, chance: &mut Chance) {
     hold(tally, held, &frame.bytes, cp, &new);
     let values = values(chance, LONG);
     built(tally, held, chance, &values, (cp, &new));
-    held.lent_words = 8;
+    held.lent_words = ANSWER_WORDS;
 }
 
 /// The same of several segments, cut as the reader takes them.

@@ -2,7 +2,7 @@
 use super::building::{around, build, every_call, hold, input, Call};
 use super::case::Held;
 use super::rust::text::{self, DdmBuilder};
-use crate::answers::Bytes;
+use crate::answers::{Bytes, ANSWER_WORDS};
 use crate::{By, Chance, Tally};
 
 /// Data of 0 to 300 bytes, and around the edges: the longest inline data, and that with a header.
@@ -58,13 +58,13 @@ pub fn marks(tally: &mut Tally, held: &mut Held) {
         held.lent_words = words;
         for call in every_call(0x2412, 0x0102_0304) {
             around(tally, held, call, 9, &[0xC1, 0xC2]);
-            hold(tally, held, call, 9, &[0xC1, 0xC2], 8);
+            hold(tally, held, call, 9, &[0xC1, 0xC2], ANSWER_WORDS);
         }
         for (fill, room) in [(2, 6), (2, 5), (4, 9)] {
             build(tally, held, 0x2412, fill, &[0xC1, 0xC2, 0xC3], room);
         }
     }
-    held.lent_words = 8;
+    held.lent_words = ANSWER_WORDS;
 }
 
 /// One builder through many calls in one room, then its object: against one builder of the Rust. What has no room is refused,
@@ -80,7 +80,7 @@ pub fn one_behind_the_other(tally: &mut Tally, held: &mut Held, chance: &mut Cha
         let data = chance.bytes(len);
         let call = every_call(chance.next() as u16, chance.next() as u32)[chance.below(4)];
         let numbers = input(call, &[fill, len, size]);
-        let mut words = [0; 8];
+        let mut words = [0; ANSWER_WORDS];
         let number = call.port(fill, &data, &mut room, &mut words);
         let mut next = rust.clone();
         call.rust(&mut next, &data);
@@ -139,5 +139,5 @@ pub fn random(tally: &mut Tally, held: &mut Held, chance: &mut Chance) {
         &data,
         len + 8 - chance.below(8),
     );
-    held.lent_words = 8;
+    held.lent_words = ANSWER_WORDS;
 }

@@ -2,9 +2,10 @@
 //! an empty one.
 use super::objects::{self, Found};
 use super::rust::{marshaled, text};
-use crate::answers::{answered, done, expected, refused, Answer, Words};
+use crate::answers::{answered, done, expected, refused, Answer, Words, ANSWER_WORDS};
 use crate::lent::Lent;
 use crate::port;
+use crate::rows::OBJECT_WORDS;
 use crate::{shown, Tally};
 
 /// The longest run and the longest room.
@@ -28,10 +29,10 @@ impl Held {
         Held {
             run: Lent::new(MOST),
             room: Lent::new(MOST),
-            row: Lent::new(8 * RECORDS),
+            row: Lent::new(OBJECT_WORDS * RECORDS),
             words: Lent::new(64),
             turn: 0,
-            lent_words: 8,
+            lent_words: ANSWER_WORDS,
         }
     }
 

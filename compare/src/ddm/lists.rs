@@ -1,6 +1,7 @@
 //! Lists of objects and parameters: good ones, unfit ones, cut, damaged.
 use super::case::Held;
 use super::lengths::{all, headed};
+use crate::answers::ANSWER_WORDS;
 use crate::{Chance, Tally};
 
 /// Extended: so many length bytes, a number, and so many bytes of data behind them.
@@ -74,7 +75,7 @@ pub fn short(tally: &mut Tally, held: &mut Held) {
 /// Positions as far beyond a run as numbers go.
 const FAR: [usize; 5] = [1 << 32, 1 << 63, usize::MAX - 4, usize::MAX - 1, usize::MAX];
 
-/// Fewer than eight words stay as they are, and of more only eight are laid down: done, and each refusal.
+/// Fewer words than an answer has stay as they are, and of more only so many are laid down: done, and each refusal.
 pub fn few_words(tally: &mut Tally, held: &mut Held) {
     for words in 0..=12 {
         held.lent_words = words;
@@ -87,7 +88,7 @@ pub fn few_words(tally: &mut Tally, held: &mut Held) {
             }
         }
     }
-    held.lent_words = 8;
+    held.lent_words = ANSWER_WORDS;
 }
 
 /// Many of them: each of four or five bytes, the last one cut, or of raw length 0x8004.
@@ -129,7 +130,7 @@ pub fn random(tally: &mut Tally, held: &mut Held, chance: &mut Chance) {
     let at = starts[chance.below(starts.len())] + chance.below(6);
     held.hold_object(tally, &run, at);
     held.hold_step_at(tally, &run, at);
-    held.lent_words = 8;
+    held.lent_words = ANSWER_WORDS;
 }
 
 /// One of them: inline, extended with up to twelve length bytes, or unfit.
@@ -144,7 +145,7 @@ fn piece(chance: &mut Chance) -> Vec<u8> {
         1 => headed(0x8004, code_point, &chance.bytes(len)),
         2..=6 => extended(1 + chance.below(12), len as u64, code_point, len),
         7 => extended(
-            8 + chance.below(3),
+            ANSWER_WORDS + chance.below(3),
             (chance.below(24) as u64).wrapping_neg(),
             code_point,
             len,

@@ -1,6 +1,7 @@
 //! Numbers read from data, and lengths of what would be built.
 use super::case::Held;
 use super::rust::text;
+use crate::answers::ANSWER_WORDS;
 use crate::port;
 use crate::{By, Chance, Tally};
 use db2_proto::ddm::{DdmObject, DdmParam};
@@ -44,14 +45,14 @@ pub fn read_all(tally: &mut Tally, held: &mut Held) {
         for near in [number.wrapping_sub(1), number, number.wrapping_add(1)] {
             let bytes = [&near.to_be_bytes()[..], &[0x5A]].concat();
             for len in 0..=bytes.len() {
-                for words in [8, 0, 7, 9, 12] {
+                for words in [ANSWER_WORDS, 0, ANSWER_WORDS - 1, ANSWER_WORDS + 1, 12] {
                     held.lent_words = words;
                     read(tally, held, &bytes[..len]);
                 }
             }
         }
     }
-    held.lent_words = 8;
+    held.lent_words = ANSWER_WORDS;
 }
 
 pub fn random(tally: &mut Tally, held: &mut Held, chance: &mut Chance) {
@@ -59,7 +60,7 @@ pub fn random(tally: &mut Tally, held: &mut Held, chance: &mut Chance) {
     let data = chance.bytes(len);
     held.lent_words = 7 + chance.below(3);
     read(tally, held, &data);
-    held.lent_words = 8;
+    held.lent_words = ANSWER_WORDS;
 }
 
 /// How long an object of so much data is: every one up to 70,000 bytes, and those around each edge of the length bytes and at

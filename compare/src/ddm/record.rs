@@ -9,10 +9,10 @@ use super::lists::{good, unfit};
 use super::objects::{object, objects, Found, Item};
 use super::params::{self, parameters};
 use super::rust::{marshaled, text};
-use crate::answers::{done, expected, refused, Words};
+use crate::answers::{done, expected, refused, Words, ANSWER_WORDS};
 use crate::reader::record::rooms;
 use crate::record::{counted, structs, Asked, List, FEW_WORDS};
-use crate::rows::Listed;
+use crate::rows::{Listed, OBJECT_WORDS};
 use crate::{Chance, Tally};
 
 pub fn record(list: &mut List, tally: &mut Tally, chance: &mut Chance) {
@@ -68,7 +68,7 @@ fn runs(chance: &mut Chance) -> Vec<Vec<u8>> {
 /// A run through every call that reads a length.
 fn whole(list: &mut List, tally: &mut Tally, run: &[u8], turn: usize) {
     let length = marshaled(tally, run);
-    list.answer(Asked::new(80, &[], run), 0, &expected(length, 8));
+    list.answer(Asked::new(80, &[], run), 0, &expected(length, ANSWER_WORDS));
     let first = object(tally, run, 0);
     found(list, Asked::new(82, &[0], run), 0, &first, turn);
     parts::data(list, run, 0, &first, turn);
@@ -94,7 +94,7 @@ fn whole(list: &mut List, tally: &mut Tally, run: &[u8], turn: usize) {
             turn,
         );
     }
-    step(list, tally, run, 0, 8);
+    step(list, tally, run, 0, ANSWER_WORDS);
     parts::walk(list, tally, run, 0, turn);
     lists(list, Asked::new(97, &[], run), Ok(params.items), turn + 1);
 }
@@ -131,7 +131,7 @@ fn lists(list: &mut List, asked: Asked, items: Result<Vec<Item>, Words>, turn: u
         }
     };
     let (bytes, records) = all.needs();
-    for (room, row) in rooms(bytes, 8, records, turn) {
+    for (room, row) in rooms(bytes, OBJECT_WORDS, records, turn) {
         let answer = all.answer(0, room, row, asked.lent_words());
         list.answer(asked.room(room).row(row), 0, &answer);
     }
@@ -153,7 +153,7 @@ fn places(list: &mut List, tally: &mut Tally) {
         for at in [1, 4, first.len(), len, len + 1, 1 << 63, usize::MAX] {
             let there = object(tally, &run, at);
             found(list, Asked::new(82, &[at as u64], &run), at, &there, turn);
-            step(list, tally, &run, at, 8);
+            step(list, tally, &run, at, ANSWER_WORDS);
             parts::data(list, &run, at, &there, turn);
             if turn % 3 == at % 3 {
                 parts::walk(list, tally, &run, at, turn);

@@ -4,6 +4,7 @@ use super::objects::{self, Item};
 use super::params::{self, Params};
 use crate::answers::{answered, done, refused, Words};
 use crate::port;
+use crate::rows::OBJECT_WORDS;
 use crate::{shown, Tally};
 
 impl Held {
@@ -84,14 +85,17 @@ impl Held {
         let other = match turn % 5 {
             0 => (0, 0),
             1 => (work.len() + turn % 9, row.len() + 1 + turn % 31),
-            2 => (work.len().saturating_sub(1), row.len() + turn % 8),
+            2 => (
+                work.len().saturating_sub(1),
+                row.len() + turn % OBJECT_WORDS,
+            ),
             _ => (work.len() + turn % 2, row.len().saturating_sub(1)),
         };
         for (bytes, elements) in [(work.len(), row.len()), other] {
             let (need, count) = (work.len() as u64, items.len() as u64);
             let rust = match listed {
                 Err(refusal) => self.answer(refusal),
-                Ok(_) if bytes < work.len() || elements / 8 < items.len() => {
+                Ok(_) if bytes < work.len() || elements / OBJECT_WORDS < items.len() => {
                     self.answer(refused(9, 0, &[need, count]))
                 }
                 Ok(_) => self

@@ -1,6 +1,6 @@
 //! Module 1's answers for the list.
 use super::{head, head_words, written};
-use crate::answers::expected;
+use crate::answers::{expected, ANSWER_WORDS};
 use crate::lengths::{continuation, type_words};
 use crate::record::{Asked, List, FEW_WORDS};
 use crate::Chance;
@@ -39,7 +39,7 @@ fn lengths(list: &mut List) {
 
 fn format_bytes(list: &mut List) {
     for b in 0..=255 {
-        let answer = expected(type_words(b).1, 8);
+        let answer = expected(type_words(b).1, ANSWER_WORDS);
         list.answer(Asked::new(4, &[b as u64], &[]), 0, &answer);
         let flags = DssFlags::from_byte(b).to_byte();
         list.number(Asked::new(5, &[b as u64], &[]), flags as u64);
@@ -61,22 +61,22 @@ fn parse(list: &mut List, bytes: &[u8], words: usize) {
 fn parsed(list: &mut List, chance: &mut Chance) {
     for raw in RAWS {
         let [high, low] = raw.to_be_bytes();
-        parse(list, &[high, low, 0xD0, 0x42, 0, 7], 8);
-        parse(list, &[0, 10, 0xD0, 0x13, high, low, 0xC1], 8);
+        parse(list, &[high, low, 0xD0, 0x42, 0, 7], ANSWER_WORDS);
+        parse(list, &[0, 10, 0xD0, 0x13, high, low, 0xC1], ANSWER_WORDS);
     }
     for magic in [0, 0xCF, 0xD0, 0xD1, 0xFF] {
         for format in [
             0, 1, 2, 3, 4, 5, 6, 15, 0x12, 0x22, 0x42, 0x72, 0x82, 0xF4, 0xF5, 0xF6,
         ] {
-            parse(list, &[0, 6, magic, format, 1, 2], 8);
+            parse(list, &[0, 6, magic, format, 1, 2], ANSWER_WORDS);
         }
         for len in 0..=6 {
-            parse(list, &[0xFF, 0xFF, magic, 2, 3, 4][..len], 8);
+            parse(list, &[0xFF, 0xFF, magic, 2, 3, 4][..len], ANSWER_WORDS);
         }
     }
     for _ in 0..40 {
         let bytes: Vec<u8> = (0..4 + chance.below(9)).map(|_| chance.byte()).collect();
-        parse(list, &bytes, 8);
+        parse(list, &bytes, ANSWER_WORDS);
     }
     for words in FEW_WORDS {
         for bytes in [
@@ -102,15 +102,15 @@ fn serialized(list: &mut List) {
     for dss_type in [0, 1, 2, 3, 4, 5, 6, 0x11, 0x15, 0x16, 0xFF] {
         for flags in [0, 0x10, 0x20, 0x40, 0x70, 0x8F, 0xFF] {
             let room = 5 + (dss_type + flags / 16) as usize % 3;
-            serialize(list, [10, dss_type, flags, 0x1234], room, 8);
+            serialize(list, [10, dss_type, flags, 0x1234], room, ANSWER_WORDS);
         }
     }
     for raw in RAWS {
-        serialize(list, [raw, 3, 0x50, raw ^ 0xFFFF], 7, 8);
+        serialize(list, [raw, 3, 0x50, raw ^ 0xFFFF], 7, ANSWER_WORDS);
     }
     for room in 0..=8 {
-        serialize(list, [0x7FFF, 2, 0x40, 7], room, 8);
-        serialize(list, [10, 9, 0x40, 7], room, 8);
+        serialize(list, [0x7FFF, 2, 0x40, 7], room, ANSWER_WORDS);
+        serialize(list, [10, 9, 0x40, 7], room, ANSWER_WORDS);
     }
     for words in FEW_WORDS {
         for room in [5, 6] {

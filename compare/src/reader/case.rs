@@ -2,7 +2,7 @@
 use super::all::{listed, to_end, ByFrame};
 use super::rust::{end, next, position, Came, Read};
 use super::SHORT;
-use crate::answers::{answered, expected, refused, Answer};
+use crate::answers::{answered, expected, refused, Answer, Words, ANSWER_WORDS};
 use crate::lent::Lent;
 use crate::measure::Pair;
 use crate::rows::{Call, Listed, Rows, RECORD_WORDS};
@@ -41,13 +41,13 @@ impl Held {
         Case {
             held: self,
             run,
-            words: 8,
+            words: ANSWER_WORDS,
         }
     }
 
     /// Reads a run frame by frame, by each call, until one is refused; then all of it.
     pub fn hold(&mut self, tally: &mut Tally, run: &[u8]) {
-        self.hold_in(tally, run, 8)
+        self.hold_in(tally, run, ANSWER_WORDS)
     }
 
     /// The same with so many words lent.
@@ -113,7 +113,7 @@ impl Held {
 }
 
 /// 10, of a position.
-pub fn beyond(at: usize, len: usize) -> [u64; 8] {
+pub fn beyond(at: usize, len: usize) -> Words {
     refused(10, at as u64, &[at as u64, len as u64])
 }
 

@@ -5,7 +5,7 @@ use super::all::{listed, to_end};
 use super::case::beyond;
 use super::rust::{end, next, position, Came, Read};
 use super::PAPER;
-use crate::answers::expected;
+use crate::answers::{expected, ANSWER_WORDS};
 use crate::record::{structs, Asked, List, FEW_WORDS};
 use crate::rows::RECORD_WORDS;
 use crate::{Chance, Tally};
@@ -18,7 +18,7 @@ pub fn record(list: &mut List, tally: &mut Tally, chance: &mut Chance) {
         whole(list, tally, &run, turn);
     }
     for count in structs::AROUND {
-        all_at(list, tally, &PAPER[1].repeat(count), 0, 8, 4);
+        all_at(list, tally, &PAPER[1].repeat(count), 0, ANSWER_WORDS, 4);
     }
     positions(list, tally);
     few_words(list, tally);
@@ -52,23 +52,23 @@ fn read_in(list: &mut List, run: &[u8], at: usize, read: &Read, words: usize, tu
 /// A run: its first frame's end; frame by frame until one is refused, of which one has the calls that read nothing; all frames,
 /// in a room and a row that are just enough, and in others.
 fn whole(list: &mut List, tally: &mut Tally, run: &[u8], turn: usize) {
-    let first = expected(end(tally, run, 0), 8);
+    let first = expected(end(tally, run, 0), ANSWER_WORDS);
     list.answer(Asked::new(51, &[], run), 0, &first);
     let mut reader = DssReader::new(run.to_vec());
     let mut frames = 0;
     loop {
         let at = position(&reader, run);
         if frames == turn % 2 {
-            look(list, tally, &reader, run, at, 8);
+            look(list, tally, &reader, run, at, ANSWER_WORDS);
         }
         let read = next(tally, &mut reader, run, 0);
-        read_in(list, run, at, &read, 8, turn + frames);
+        read_in(list, run, at, &read, ANSWER_WORDS, turn + frames);
         frames += 1;
         if matches!(read.came, Came::Refused(_)) {
             break;
         }
     }
-    all_at(list, tally, run, 0, 8, turn);
+    all_at(list, tally, run, 0, ANSWER_WORDS, turn);
 }
 
 /// All frames from a place on.
@@ -111,10 +111,10 @@ fn positions(list: &mut List, tally: &mut Tally) {
                 continue;
             };
             let mut reader = DssReader::new(rest.to_vec());
-            look(list, tally, &reader, run, at, 8);
+            look(list, tally, &reader, run, at, ANSWER_WORDS);
             let read = next(tally, &mut reader, rest, at);
-            read_in(list, run, at, &read, 8, turn);
-            all_at(list, tally, run, at, 8, turn);
+            read_in(list, run, at, &read, ANSWER_WORDS, turn);
+            all_at(list, tally, run, at, ANSWER_WORDS, turn);
         }
     }
 }
@@ -124,7 +124,7 @@ fn outside(list: &mut List, run: &[u8], at: usize) {
     let asked = |call: u64| Asked::new(call, &[at as u64], run);
     list.number(asked(48), 0);
     list.number(asked(49), 0);
-    let answer = expected(beyond(at, run.len()), 8);
+    let answer = expected(beyond(at, run.len()), ANSWER_WORDS);
     list.answer(asked(50), 0, &answer);
     list.answer(asked(52).room(3), 0, &answer);
     list.answer(asked(64).room(3).row(11), 0, &answer);

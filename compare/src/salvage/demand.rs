@@ -2,7 +2,7 @@
 //! salvage reading hands out "every other frame, in order and exactly as written, and one refusal at the first byte of each spoilt
 //! frame, and nothing else". What is due is made from what was sent, and nothing is read for it.
 use super::Held;
-use crate::answers::{done, refused, Words};
+use crate::answers::{done, refused, Words, ANSWER_WORDS};
 use crate::port::{self, Loan};
 use crate::rows::{frame_words, record, Call, Listed};
 use crate::writer::call;
@@ -69,7 +69,7 @@ impl Sent {
 
     fn written_by_port(&self) -> Vec<u8> {
         let mut room = vec![0; port::frame_size(self.payload.len())];
-        let (mut words, id, flags) = ([0; 8], self.correlation, self.flags());
+        let (mut words, id, flags) = ([0; ANSWER_WORDS], self.correlation, self.flags());
         let loan = Loan {
             payload: &self.payload,
             room: &mut room,
@@ -159,7 +159,7 @@ fn hold(tally: &mut Tally, held: &mut Held, chance: &mut Chance, frames: &[(Sent
         name: "demand 3",
         by: By::Document,
         at: 0,
-        words: 8,
+        words: ANSWER_WORDS,
         make: |_, loan| port::salvage(loan),
     };
     held.hold_to(tally, &run, call, &due);

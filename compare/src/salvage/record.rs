@@ -1,6 +1,7 @@
 //! The salvage reading's answers for the list, by the model: the Rust has none.
 use super::runs::GOOD;
 use super::{listed, model};
+use crate::answers::ANSWER_WORDS;
 use crate::reader::record::{rooms, runs};
 use crate::reader::PAPER;
 use crate::record::{structs, Asked, List, FEW_WORDS};
@@ -12,7 +13,7 @@ pub fn record(list: &mut List, chance: &mut Chance) {
     let mut turn = 0;
     for run in runs::all(chance) {
         turn += 1;
-        salvage(list, &run, 8, turn);
+        salvage(list, &run, ANSWER_WORDS, turn);
     }
     for first in PAPER {
         let run = [first, GOOD].concat();
@@ -20,11 +21,11 @@ pub fn record(list: &mut List, chance: &mut Chance) {
             turn += 1;
             let mut run = run.clone();
             run[place] = [0, 1, 5, 7, 0x13, 0x53, 0xD0, 0xFF][turn % 8];
-            salvage(list, &run, 8, turn);
+            salvage(list, &run, ANSWER_WORDS, turn);
         }
     }
     for count in structs::AROUND {
-        salvage(list, &GOOD.repeat(count), 8, 4);
+        salvage(list, &GOOD.repeat(count), ANSWER_WORDS, 4);
     }
     for words in FEW_WORDS {
         for first in PAPER {

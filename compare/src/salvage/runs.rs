@@ -37,7 +37,7 @@ pub fn paper(tally: &mut Tally, held: &mut Held) {
     }
 }
 
-/// Fewer than eight words stay as they are, and of more only eight are laid down.
+/// Fewer words than an answer has stay as they are, and of more only so many are laid down.
 pub fn few_words(tally: &mut Tally, held: &mut Held) {
     for words in 0..=12 {
         for first in PAPER {

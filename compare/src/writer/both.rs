@@ -2,7 +2,7 @@
 use super::call::{random_call, Call};
 use super::case::Held;
 use super::{random_length, ROOM};
-use crate::answers::{answered, done, expected, of_error, refused, Bytes};
+use crate::answers::{answered, done, expected, of_error, refused, Bytes, ANSWER_WORDS};
 use crate::port::{self, Loan};
 use crate::{five, Chance, Tally};
 use db2_proto::dss::DssWriter;
@@ -79,7 +79,7 @@ impl Both {
         };
         let payload = held.payload.lend_copy(bytes);
         let room = held.room.again();
-        let port = answered(&mut held.words, 8, |words| {
+        let port = answered(&mut held.words, ANSWER_WORDS, |words| {
             let loan = Loan {
                 payload,
                 room,
@@ -90,7 +90,7 @@ impl Both {
         let port = port
             .with_room(&held.room, 0, self.room.len())
             .with_run(&held.payload, bytes);
-        let rust = expected(answer, 8).laying(&self.room);
+        let rust = expected(answer, ANSWER_WORDS).laying(&self.room);
         let input = [self.id as usize, self.fill, len, self.room.len()].map(usize::to_be_bytes);
         let (by, name) = (call.by(), call.named().0);
         tally.answer_by(by, name, input.as_flattened(), port, rust);

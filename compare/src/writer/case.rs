@@ -1,7 +1,7 @@
 //! One call in one room: what it should come to, and the comparison.
 use super::call::{Call, Frame};
 use super::{MOST, ROOM, SPARE};
-use crate::answers::{answered, done, expected, of_error, refused, Answer};
+use crate::answers::{answered, done, expected, of_error, refused, Answer, ANSWER_WORDS};
 use crate::lent::Lent;
 use crate::port::Loan;
 use crate::{Chance, Tally};
@@ -122,6 +122,6 @@ pub fn anywhere(chance: &mut Chance, call: Call, id: u16, len: usize) -> Case {
         },
         from: chance.below(MOST - len + 1),
         len,
-        words: 8,
+        words: ANSWER_WORDS,
     }
 }

@@ -2,6 +2,7 @@
 use super::call::{and_no_type, every_call, Call};
 use super::case::Case;
 use super::sizes::{due, LONGEST};
+use crate::answers::ANSWER_WORDS;
 use crate::record::{counted, Asked, List, FEW_WORDS};
 use db2_proto::dss::DssWriter;
 use Call::*;
@@ -73,7 +74,7 @@ fn case(call: Call, turn: usize, len: usize) -> Case {
         fill: if call.builds() { 0 } else { turn * 7 % 48 },
         from: turn * 257,
         len,
-        words: 8,
+        words: ANSWER_WORDS,
     }
 }
 

@@ -1,3 +1,2 @@
 pub mod Numbers
 pub mod Rooms
-pub mod RoomLaws

@@ -2,7 +2,7 @@
 ghost use mathlib.Core.Path.{_≡_};
 ghost use lib.ListN.{getD};
 ghost use Rattle.answer.specs.Numbers.{numberOf, notWhole, valuesOf};
-ghost use Rattle.answer.specs.Rooms.{roomFor};
+ghost use Rattle.answer.specs.Rooms.{noRoom, outOfBounds, roomFor};
 
 pub enum Refusal {
     // 1: the frame isn't whole yet.
@@ -185,20 +185,33 @@ impl Refusal {
     }
 }
 
+impl Refused {
+    // 9 at a place, with the bytes and the records that are needed.
+    pub fn no_room(bytes: usize, records: usize, place: usize) -> Refused
+        ensures { λ r. ⌜ r ≡ noRoom place bytes records ⌝ }
+    {
+        let why = Refusal::NoRoom { bytes, records };
+        Refused { why, place }
+    }
+
+    // 10 at a mark or position, with the length of what it is beyond.
+    pub fn out_of_bounds(mark: usize, length: usize) -> Refused
+        ensures { λ r. ⌜ r ≡ outOfBounds mark length ⌝ }
+    {
+        let why = Refusal::OutOfBounds { mark, length };
+        Refused { why, place: mark }
+    }
+}
+
 // Whether `need` bytes can be laid down from a fill mark of a room of `size` bytes: 10, then 9.
 pub fn room_for(mark: usize, size: usize, need: usize) -> RoomFor
     ensures { λ r. ⌜ r ≡ roomFor mark size need ⌝ }
 {
     if size < mark {
-        let why = Refusal::OutOfBounds { mark, length: size };
-        return RoomFor::Refused(Refused { why, place: mark });
+        return RoomFor::Refused(Refused::out_of_bounds(mark, size));
     }
     if size - mark < need {
-        let why = Refusal::NoRoom {
-            bytes: need,
-            records: 0,
-        };
-        return RoomFor::Refused(Refused { why, place: mark });
+        return RoomFor::Refused(Refused::no_room(need, 0, mark));
     }
     RoomFor::Enough
 }

@@ -17,8 +17,8 @@ use Rattle.ddm_builder.specs.declared.Added.the-variants.{Done, Refused 
 
 -- ---- the state
 
-abbrev pub fresh : ℕ → DdmBuilder
-fresh cp = record { «code_point» = cp; fill = 0 }
+abbrev pub freshBuilder : ℕ → DdmBuilder
+freshBuilder cp = record { «code_point» = cp; fill = 0 }
 
 -- ---- adding to the data: into the lent room from the fill mark onward; 10, 9
 
@@ -44,17 +44,17 @@ parameter32 cp n = built cp (last 4 n)
 -- ---- the object
 
 -- what a builder with so much data in a room makes
-abbrev pub objectOf : DdmBuilder → List ℕ → List ℕ
-objectOf b content = built (b .«code_point») (take (b .fill) content)
+abbrev pub builderObject : DdmBuilder → List ℕ → List ℕ
+builderObject b content = built (b .«code_point») (take (b .fill) content)
 
 -- `build_param`, `build_param_u16` and `build_ddm_object` are `Lays` of what is built.
 -- `build`: the data are the filled part of one room, and the object is laid at another's first byte; 10, 9, at the fill mark
 pub record Builds (b : DdmBuilder) (content room : List ℕ) (r : Laid) (after : List ℕ) : Type 0 where
   pub answers : r
-      ≡ pick (leb (b .fill) (length content)) (laidAtStart (b .fill) (length room) (length (objectOf b content))) (NotLaid (outOfBounds (b .fill) (length content)))
-  pub room-is : after ≡ pick (leb (b .fill) (length content)) (laid room 0 (objectOf b content)) room
+      ≡ pick (leb (b .fill) (length content)) (laidAtStart (b .fill) (length room) (length (builderObject b content))) (NotLaid (outOfBounds (b .fill) (length content)))
+  pub room-is : after ≡ pick (leb (b .fill) (length content)) (laid room 0 (builderObject b content)) room
 
 -- ---- `total_length`
 
-abbrev pub totalLength : DdmBuilder → ℕ
-totalLength b = capped (builtSize (b .fill))
+abbrev pub builderTotal : DdmBuilder → ℕ
+builderTotal b = capped (builtSize (b .fill))

@@ -1,6 +1,6 @@
 -- Building: document 01, "DDM", "Building".
-use Prim.Native.Nat.{ℕ, zero, suc, _+_}
-use mathlib.Core.List.{List, _++_}
+use Prim.Native.Nat.{ℕ, zero, suc, _+_, _^_, _<_}
+use mathlib.Core.List.{List, _++_, [], _∷_}
 use lib.Dec.{leb}
 use lib.ListN.{length}
 use Rattle.wire.specs.Bytes.{pick, two, last}
@@ -22,3 +22,12 @@ built cp content = builtWith (lengthBytes (length content)) cp content
 unfoldable pub builtSize : ℕ → ℕ
 unfolding lengthBytes
 builtSize n = 4 + lengthBytes n + n
+
+-- code points with their data, built one behind the other
+abbrev pub builtAll : List (ℕ × List ℕ) → List ℕ
+builtAll [] = []
+builtAll (x ∷ l) = built (x .0) (x .1) ++ builtAll l
+
+abbrev pub Fit : List (ℕ × List ℕ) → Type 0
+Fit [] = Unit {0}
+Fit (x ∷ l) = (x .0 < 65536) × (length (x .1) < 2 ^ 63) × Fit l

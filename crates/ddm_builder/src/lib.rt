@@ -5,11 +5,10 @@ ghost use lib.ListN.{length};
 ghost use Rattle.wire.specs.Bytes.{two, last, laid};
 ghost use Rattle.answer.specs.Rooms.{capped, Lays};
 ghost use Rattle.ddm_builder.specs.Built.{lengthBytes, built, builtSize};
-ghost use Rattle.ddm_builder.specs.Builder.{fresh, Adds, parameter16, parameter32, Builds, totalLength};
-ghost use Rattle.ddm_builder.specs.Forms.{rawLength, LaysAt};
+ghost use Rattle.ddm_builder.specs.Builder.{freshBuilder, Adds, parameter16, parameter32, Builds, builderTotal};
+ghost use Rattle.ddm_builder.specs.inner.FormsLaid.{rawLength, LaysAt};
 ghost use Rattle.ddm_builder.specs.Headers.{headerOf};
 use answer::Laid;
-use answer::Refusal;
 use answer::Refused;
 use answer::RoomFor;
 
@@ -120,11 +119,7 @@ pub(crate) fn lay_object_or_refuse(place: usize, cp: u16, data: &[u8], room: &mu
 {
     let need = serialized_header_len(data.len()) + data.len();
     if room.len() < need {
-        let why = Refusal::NoRoom {
-            bytes: need,
-            records: 0,
-        };
-        return Laid::Refused(Refused { why, place });
+        return Laid::Refused(Refused::no_room(need, 0, place));
     }
     lay_object(cp, data, room);
     Laid::Bytes(need)
@@ -133,7 +128,7 @@ pub(crate) fn lay_object_or_refuse(place: usize, cp: u16, data: &[u8], room: &mu
 impl DdmBuilder {
     // A builder of an object with no data yet.
     pub fn new(code_point: u16) -> Self
-        ensures { λ r. ⌜ r ≡ fresh «code_point» ⌝ }
+        ensures { λ r. ⌜ r ≡ freshBuilder «code_point» ⌝ }
     {
         Self {
             code_point,
@@ -204,18 +199,14 @@ impl DdmBuilder {
     {
         let fill = self.fill;
         if content.len() < fill {
-            let why = Refusal::OutOfBounds {
-                mark: fill,
-                length: content.len(),
-            };
-            return Laid::Refused(Refused { why, place: fill });
+            return Laid::Refused(Refused::out_of_bounds(fill, content.len()));
         }
         lay_object_or_refuse(fill, self.code_point, &content[..fill], room)
     }
 
     // How many bytes the object is; above 2^64 - 1 it is given as that.
     pub fn total_length(self) -> usize
-        ensures { λ r. ⌜ r ≡ totalLength self ⌝ }
+        ensures { λ r. ⌜ r ≡ builderTotal self ⌝ }
     {
         built_size(self.fill)
     }

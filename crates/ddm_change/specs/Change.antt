@@ -62,21 +62,21 @@ abbrev pub noSuch : Refused
 noSuch = record { why = NotFound; place = 0 }
 
 -- "then 9", with the bytes needed, at 0
-abbrev pub answerOf : Change → ℕ → Laid
-answerOf (changed b) size = laidAtStart 0 size (length b)
-answerOf (faulty place) size = NotLaid (unsound place)
-answerOf lacking size = NotLaid noSuch
+abbrev pub changeAnswer : Change → ℕ → Laid
+changeAnswer (changed b) size = laidAtStart 0 size (length b)
+changeAnswer (faulty place) size = NotLaid (unsound place)
+changeAnswer lacking size = NotLaid noSuch
 
 -- "lay into a second room"; "No answer but 0 alters a lent buffer. With 0, bytes outside the result stay"
-abbrev pub roomOf : Change → List ℕ → List ℕ
-roomOf (changed b) room = laid room 0 b
-roomOf (faulty place) room = room
-roomOf lacking room = room
+abbrev pub changeRoom : Change → List ℕ → List ℕ
+changeRoom (changed b) room = laid room 0 b
+changeRoom (faulty place) room = room
+changeRoom lacking room = room
 
 -- `change_param`
 pub record Changes (d : List ℕ) (cp : ℕ) (new room : List ℕ) (r : Laid) (after : List ℕ) : Type 0 where
-  pub answers : r ≡ answerOf (changeOf d cp new) (length room)
-  pub room-is : after ≡ roomOf (changeOf d cp new) room
+  pub answers : r ≡ changeAnswer (changeOf d cp new) (length room)
+  pub room-is : after ≡ changeRoom (changeOf d cp new) room
 
 -- the bytes that the data after has, of so many new bytes; "a need above 2^64 - 1 is given as that"
 abbrev pub neededAt : List ℕ → ℕ → Spot → Laid

@@ -67,36 +67,36 @@ unlessBehind s gs c = pick (leb (length s) (endOf 0 gs)) c (refusesIt (unsound (
 
 -- 17 where bytes are left over behind the one object or behind the frame, at the first of them; the object's own refusals, 4, 5, 6, 8; 17
 -- for raw length 0x8004
-abbrev pub objectOf : List ℕ → ℕ → List ℕ → List Segment → Parsed → Changed
-objectOf s cp new gs (ddm.refused r) = unlessBehind s gs (refusesIt r)
-objectOf s cp new gs (object o) =
+abbrev pub requestObject : List ℕ → ℕ → List ℕ → List Segment → Parsed → Changed
+requestObject s cp new gs (ddm.refused r) = unlessBehind s gs (refusesIt r)
+requestObject s cp new gs (object o) =
     pick (ltb (o .consumed) (length (payloadOf s gs))) (refusesIt (unsound (placeIn 0 gs (o .consumed))))
     (unlessBehind s gs
     (pick (eqb (be16 (payloadOf s gs) 0) 0x8004) (refusesIt (unsound (placeIn 0 gs 0)))
     (builtOf s gs o (changeOf (o .content) cp new))))
 
 -- by the reader's rules: 1 or 16, 2, 3, 7
-abbrev pub readOf : List ℕ → ℕ → List ℕ → Read → Changed
-readOf s cp new (refused r) = refusesIt r
-readOf s cp new (frame f) = objectOf s cp new (f .segments) (parsed (payloadOf s (f .segments)) (placeIn 0 (f .segments) 0))
+abbrev pub requestRead : List ℕ → ℕ → List ℕ → Read → Changed
+requestRead s cp new (refused r) = refusesIt r
+requestRead s cp new (frame f) = requestObject s cp new (f .segments) (parsed (payloadOf s (f .segments)) (placeIn 0 (f .segments) 0))
 
 unfoldable pub requestOf : List ℕ → ℕ → List ℕ → Changed
 unfolding placeIn reframed payloadOf endOf aloneAt changeOf built parsed
-requestOf s cp new = readOf s cp new (aloneAt Reader s 0)
+requestOf s cp new = requestRead s cp new (aloneAt Reader s 0)
 
 -- ---- the call
 
 -- 9 with the bytes needed, at 0
-abbrev pub answerOf : Changed → ℕ → Laid
-answerOf (laysFrame b) size = laidAtStart 0 size (length b)
-answerOf (refusesIt r) size = NotLaid r
+abbrev pub requestAnswer : Changed → ℕ → Laid
+requestAnswer (laysFrame b) size = laidAtStart 0 size (length b)
+requestAnswer (refusesIt r) size = NotLaid r
 
 -- nothing is written unless the answer is 0
-abbrev pub roomOf : Changed → List ℕ → List ℕ
-roomOf (laysFrame b) room = laid room 0 b
-roomOf (refusesIt r) room = room
+abbrev pub requestRoom : Changed → List ℕ → List ℕ
+requestRoom (laysFrame b) room = laid room 0 b
+requestRoom (refusesIt r) room = room
 
 -- `change_request`
 pub record ChangesRequest (s : List ℕ) (cp : ℕ) (new room : List ℕ) (r : Laid) (after : List ℕ) : Type 0 where
-  pub answers : r ≡ answerOf (requestOf s cp new) (length room)
-  pub room-is : after ≡ roomOf (requestOf s cp new) room
+  pub answers : r ≡ requestAnswer (requestOf s cp new) (length room)
+  pub room-is : after ≡ requestRoom (requestOf s cp new) room

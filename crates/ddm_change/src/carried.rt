@@ -4,18 +4,16 @@ ghost use Prim.Native.Nat.{_+_, _-_, _≤_, _<_, _^_};
 ghost use lib.ListN.{length, getD, drop};
 ghost use Rattle.wire.specs.Bytes.{be16, part};
 ghost use Rattle.ddm_length.specs.Lengths.{extended, marshaled, measured};
-ghost use Rattle.ddm_length.specs.Sums.{numbered};
-ghost use Rattle.ddm_change.specs.Carried.{Sound, carried, passed, placeOf, uncut, pieceOf};
+ghost use Rattle.ddm_length.specs.inner.Numbered.{spelledNumber};
+ghost use Rattle.ddm_change.specs.inner.Carried.{SoundCarriage, carried, passed, placeOf, uncut, pieceOf};
 use super::Carriage;
 use answer::Refusal;
 use answer::Refused;
 use ddm_length::Marshaled;
 use ddm_length::Number;
-
-// The payload bytes of a full first segment, and of a full continuation.
-const DSS_FIRST_PAYLOAD_LEN: usize = 32761;
-
-const DSS_CONTINUATION_PAYLOAD_LEN: usize = 32765;
+use dss_head::DSS_CONTINUATION_HEADER_LEN;
+use dss_head::DSS_CONTINUATION_PAYLOAD_LEN;
+use dss_head::DSS_FIRST_PAYLOAD_LEN;
 
 // How many of the continuations start at a payload byte or before it.
 pub(crate) fn passed_by(continuations: usize, i: usize) -> usize
@@ -36,7 +34,7 @@ pub(crate) fn place_of(c: Carriage, i: usize) -> usize
     requires { ⌜ placeOf c i < 2 ^ 64 ⌝ }
     ensures { λ r. ⌜ r ≡ placeOf c i ⌝ }
 {
-    c.lead + i + 2 * passed_by(c.continuations, i)
+    c.lead + i + DSS_CONTINUATION_HEADER_LEN * passed_by(c.continuations, i)
 }
 
 // How many payload bytes there are from one on up to the next cut.
@@ -65,15 +63,15 @@ pub(crate) fn piece_of(continuations: usize, i: usize, most: usize) -> usize
 
 // How long the payload is.
 pub(crate) fn len_in(run: &[u8], c: Carriage) -> usize
-    requires { ⌜ Sound c (now run) ⌝ }
+    requires { ⌜ SoundCarriage c (now run) ⌝ }
     ensures { λ r. ⌜ r ≡ length (carried c (now (run .entry))) ⌝ }
 {
-    run.len() - c.lead - 2 * c.continuations
+    run.len() - c.lead - DSS_CONTINUATION_HEADER_LEN * c.continuations
 }
 
 // A payload byte.
 pub(crate) fn byte_in(run: &[u8], c: Carriage, i: usize) -> u8
-    requires { ⌜ Sound c (now run) × (i < length (carried c (now run))) ⌝ }
+    requires { ⌜ SoundCarriage c (now run) × (i < length (carried c (now run))) ⌝ }
     ensures { λ r. ⌜ r ≡ getD (carried c (now (run .entry))) i 0 ⌝ }
 {
     run[place_of(c, i)]
@@ -81,7 +79,7 @@ pub(crate) fn byte_in(run: &[u8], c: Carriage, i: usize) -> u8
 
 // Two payload bytes as a number.
 pub(crate) fn u16_in(run: &[u8], c: Carriage, i: usize) -> u16
-    requires { ⌜ Sound c (now run) × (i + 1 < length (carried c (now run))) ⌝ }
+    requires { ⌜ SoundCarriage c (now run) × (i + 1 < length (carried c (now run))) ⌝ }
     ensures { λ r. ⌜ r ≡ be16 (carried c (now (run .entry))) i ⌝ }
 {
     let high = byte_in(run, c, i);
@@ -91,8 +89,8 @@ pub(crate) fn u16_in(run: &[u8], c: Carriage, i: usize) -> u16
 
 // The number that a part of the payload spells: a sum that is checked before each step.
 pub(crate) fn number_in(run: &[u8], c: Carriage, from: usize, to: usize) -> Number
-    requires { ⌜ Sound c (now run) × (from ≤ to) × (to ≤ length (carried c (now run))) ⌝ }
-    ensures { λ r. ⌜ r ≡ numbered (part (carried c (now (run .entry))) from to) ⌝ }
+    requires { ⌜ SoundCarriage c (now run) × (from ≤ to) × (to ≤ length (carried c (now run))) ⌝ }
+    ensures { λ r. ⌜ r ≡ spelledNumber (part (carried c (now (run .entry))) from to) ⌝ }
 {
     let mut n: usize = 0;
     let mut i = from;
@@ -114,7 +112,7 @@ pub(crate) fn extended_in(
     place: usize,
     header: u16,
 ) -> Marshaled
-    requires { ⌜ Sound c (now run) × (at ≤ length (carried c (now run))) ⌝ }
+    requires { ⌜ SoundCarriage c (now run) × (at ≤ length (carried c (now run))) ⌝ }
     ensures { λ r. ⌜ r ≡ extended (drop at (carried c (now (run .entry)))) place header ⌝ }
 {
     if header < 4 {
@@ -150,7 +148,7 @@ pub(crate) fn extended_in(
 
 // What the length field of an object at a payload byte says; a refusal has the place that is given: 4, 6, 4, 8.
 pub(crate) fn length_in(run: &[u8], c: Carriage, at: usize, place: usize) -> Marshaled
-    requires { ⌜ Sound c (now run) × (at ≤ length (carried c (now run))) ⌝ }
+    requires { ⌜ SoundCarriage c (now run) × (at ≤ length (carried c (now run))) ⌝ }
     ensures { λ r. ⌜ r ≡ marshaled (drop at (carried c (now (run .entry)))) place ⌝ }
 {
     let there = len_in(run, c) - at;
@@ -179,7 +177,7 @@ pub(crate) fn length_in(run: &[u8], c: Carriage, at: usize, place: usize) -> Mar
 
 // What an object at a payload byte takes, once its length is known and fits: then 5, then 4.
 pub(crate) fn measure_in(run: &[u8], c: Carriage, at: usize, place: usize) -> Marshaled
-    requires { ⌜ Sound c (now run) × (at ≤ length (carried c (now run))) ⌝ }
+    requires { ⌜ SoundCarriage c (now run) × (at ≤ length (carried c (now run))) ⌝ }
     ensures { λ r. ⌜ r ≡ measured (drop at (carried c (now (run .entry)))) place ⌝ }
 {
     match length_in(run, c, at, place) {

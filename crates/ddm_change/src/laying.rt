@@ -7,23 +7,22 @@ ghost use lib.ListN.{length};
 ghost use Rattle.wire.specs.Bytes.{two, part, splice};
 ghost use Rattle.dss_frame.specs.Written.{frameSize};
 ghost use Rattle.ddm_builder.specs.Headers.{headerOf};
-ghost use Rattle.ddm_change.specs.Carried.{Sound, carried, uncut};
-ghost use Rattle.ddm_change.specs.Outlay.{rawFirst, starts, rawAt, outlaid, stepOf};
+ghost use Rattle.ddm_change.specs.inner.Carried.{SoundCarriage, carried, uncut};
+ghost use Rattle.ddm_change.specs.inner.Outlay.{rawFirst, starts, rawAt, outlaid, outlayStep};
 use super::Carriage;
 use super::carried;
-
-const DSS_FIRST_PAYLOAD_LEN: usize = 32761;
-
-const DSS_CONTINUATION_PAYLOAD_LEN: usize = 32765;
-
-const DSS_CONTINUED: u16 = 0xFFFF;
+use dss_head::DSS_CONTINUATION_HEADER_LEN;
+use dss_head::DSS_CONTINUATION_PAYLOAD_LEN;
+use dss_head::DSS_CONTINUED;
+use dss_head::DSS_FIRST_PAYLOAD_LEN;
+use dss_head::DSS_HEADER_LEN;
 
 // The length in the first segment of a frame with so much payload.
 pub(crate) fn raw_first(len: usize) -> u16
     ensures { λ r. ⌜ r ≡ rawFirst len ⌝ }
 {
     if len <= DSS_FIRST_PAYLOAD_LEN {
-        return (len + 6) as u16;
+        return (len + DSS_HEADER_LEN) as u16;
     }
     DSS_CONTINUED
 }
@@ -34,7 +33,7 @@ pub(crate) fn lay_head(frame: &[u8], len: usize, room: &mut [u8])
     ensures { λ _. ⌜ now (room .exit) ≡ splice (now (room .entry)) 0 (two (rawFirst len) ++ part (now (frame .entry)) 2 6) ⌝ }
 {
     wire::put_u16(room, raw_first(len));
-    wire::lay_at(&frame[2..6], room, 2);
+    wire::lay_at(&frame[2..DSS_HEADER_LEN], room, 2);
 }
 
 // Whether a continuation starts at a payload byte.
@@ -53,7 +52,7 @@ pub(crate) fn raw_at(len: usize, at: usize) -> u16
     ensures { λ r. ⌜ r ≡ rawAt len at ⌝ }
 {
     if len - at <= DSS_CONTINUATION_PAYLOAD_LEN {
-        return (len - at + 2) as u16;
+        return (len - at + DSS_CONTINUATION_HEADER_LEN) as u16;
     }
     DSS_CONTINUED
 }
@@ -66,7 +65,7 @@ pub(crate) fn lay_piece(bytes: &[u8], len: usize, at: usize, room: &mut [u8])
     let mark = dss_writer::frame_size(at);
     if starts_at(at) {
         wire::put_u16(&mut room[mark..], raw_at(len, at));
-        wire::lay_at(bytes, room, mark + 2);
+        wire::lay_at(bytes, room, mark + DSS_CONTINUATION_HEADER_LEN);
         return;
     }
     wire::lay_at(bytes, room, mark);
@@ -74,7 +73,7 @@ pub(crate) fn lay_piece(bytes: &[u8], len: usize, at: usize, room: &mut [u8])
 
 // How many of so many payload bytes stand in one piece here, and are cut by nothing there.
 pub(crate) fn step_of(c: Carriage, from: usize, at: usize, most: usize) -> usize
-    ensures { λ r. ⌜ r ≡ stepOf (c .continuations) from at most ⌝ }
+    ensures { λ r. ⌜ r ≡ outlayStep (c .continuations) from at most ⌝ }
 {
     let there = carried::piece_of(c.continuations, from, most);
     let here = carried::uncut_from(at);
@@ -94,7 +93,7 @@ pub(crate) fn lay_part(
     at: usize,
     room: &mut [u8],
 )
-    requires { ⌜ Sound c (now run) × (from ≤ to) × (to ≤ length (carried c (now run))) × (at + (to - from) ≤ len) × (frameSize len ≤ length (now room)) ⌝ }
+    requires { ⌜ SoundCarriage c (now run) × (from ≤ to) × (to ≤ length (carried c (now run))) × (at + (to - from) ≤ len) × (frameSize len ≤ length (now room)) ⌝ }
     ensures { λ _. ⌜ now (room .exit) ≡ splice (now (room .entry)) (frameSize at) (outlaid len at (part (carried c (now (run .entry))) from to)) ⌝ }
 {
     let mut i = from;

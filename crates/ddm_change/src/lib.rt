@@ -93,11 +93,7 @@ pub(crate) fn rewrite(
 {
     let need = changed_len(from + (data.len() - to), new.len());
     if room.len() < need {
-        let why = Refusal::NoRoom {
-            bytes: need,
-            records: 0,
-        };
-        return Laid::Refused(Refused { why, place: 0 });
+        return Laid::Refused(Refused::no_room(need, 0, 0));
     }
     wire::lay_at(&data[..from], room, 0);
     ddm_builder::build_param(code_point, new, &mut room[from..]);
@@ -161,11 +157,7 @@ pub fn change_request(frame: &[u8], code_point: u16, new: &[u8], room: &mut [u8]
         Planned::Lay(plan) => {
             let need = dss_writer::frame_size(plan.payload_len);
             if room.len() < need {
-                let why = Refusal::NoRoom {
-                    bytes: need,
-                    records: 0,
-                };
-                return Laid::Refused(Refused { why, place: 0 });
+                return Laid::Refused(Refused::no_room(need, 0, 0));
             }
             request::lay(frame, plan, code_point, new, room);
             Laid::Bytes(need)

@@ -6,11 +6,11 @@ ghost use lib.ListN.{length};
 ghost use Rattle.wire.specs.Bytes.{splice};
 ghost use Rattle.dss_frame.specs.declared.Rules.the-variants.{Reader as asReader};
 ghost use Rattle.dss_frame.specs.Written.{frameSize};
-ghost use Rattle.dss_measure.specs.Measure.{walkedAt};
+ghost use Rattle.dss_measure.specs.inner.Walking.{walkedAt};
 ghost use Rattle.dss_measure.specs.declared.Walked.the-variants.{Whole};
 ghost use Rattle.ddm_change.specs.Alone.{aloneAt};
 ghost use Rattle.ddm_change.specs.Request.{reframed, unreadable};
-ghost use Rattle.ddm_change.specs.Planning.{aloneOf, Standing, OneObject, Found, Plans, planUnsound, Laying, payloadAfter};
+ghost use Rattle.ddm_change.specs.inner.Planning.{aloneOf, Standing, OneObject, FoundParam, Plans, planUnsound, LayingRequest, payloadAfter};
 use super::Alone;
 use super::Carriage;
 use super::Plan;
@@ -25,10 +25,11 @@ use answer::Refusal;
 use answer::Refused;
 use ddm_length::Marshaled;
 use dss_frame::Rules;
+use dss_head::DSS_CONTINUATION_PAYLOAD_LEN;
+use dss_head::DSS_FIRST_PAYLOAD_LEN;
+use dss_head::DSS_HEADER_LEN;
 use dss_head::HeadFound;
 use dss_measure::Walked;
-
-const DSS_HEADER_LEN: usize = 6;
 
 // The head of a frame that is whole: 2, 3, 7.
 pub(crate) fn alone_head(frame: &[u8], end: usize, segments: usize, payload_len: usize) -> Alone
@@ -85,10 +86,10 @@ pub(crate) fn unsound(place: usize) -> Planned
 pub(crate) fn is_unreadable(payload_len: usize) -> bool
     ensures { λ r. ⌜ r ≡ unreadable «payload_len» ⌝ }
 {
-    if payload_len <= 32761 {
+    if payload_len <= DSS_FIRST_PAYLOAD_LEN {
         return false;
     }
-    (payload_len - 32761) % 32765 == 0
+    (payload_len - DSS_FIRST_PAYLOAD_LEN) % DSS_CONTINUATION_PAYLOAD_LEN == 0
 }
 
 // The lengths after, of a parameter that is found: 18.
@@ -101,7 +102,7 @@ pub(crate) fn plan_found(
     code_point: u16,
     new_len: usize,
 ) -> Planned
-    requires { ⌜ Found (now frame) c first from to «code_point» × («new_len» < 2 ^ 63) ⌝ }
+    requires { ⌜ FoundParam (now frame) c first from to «code_point» × («new_len» < 2 ^ 63) ⌝ }
     ensures { λ r. ⌜ Plans (now (frame .entry)) «code_point» «new_len» r ⌝ }
 {
     let end = carried::len_in(frame, c);
@@ -207,7 +208,7 @@ pub(crate) fn plan(frame: &[u8], code_point: u16, new_len: usize) -> Planned
 // The frame after, at the room's start: its head, whose length alone is new; the object's header; its data up to the parameter, the
 // parameter, and its data behind it.
 pub(crate) fn lay(frame: &[u8], p: Plan, code_point: u16, new: &[u8], room: &mut [u8])
-    requires { ⌜ Laying (now frame) «code_point» (length (now new)) p × (frameSize (p .«payload_len») ≤ length (now room)) ⌝ }
+    requires { ⌜ LayingRequest (now frame) «code_point» (length (now new)) p × (frameSize (p .«payload_len») ≤ length (now room)) ⌝ }
     ensures { λ _. ⌜ now (room .exit) ≡ splice (now (room .entry)) 0 (reframed (now (frame .entry)) (payloadAfter (now (frame .entry)) p «code_point» (now (new .entry)))) ⌝ }
 {
     let len = p.payload_len;

@@ -2,8 +2,8 @@
 ghost use mathlib.Core.Path.{_≡_};
 ghost use Prim.Native.Nat.{_+_, _≤_, _<_};
 ghost use lib.ListN.{length, drop};
-ghost use Rattle.ddm_change.specs.Carried.{Sound, carried};
-ghost use Rattle.ddm_change.specs.Searching.{paramOf, meets, searched};
+ghost use Rattle.ddm_change.specs.inner.Carried.{SoundCarriage, carried};
+ghost use Rattle.ddm_change.specs.inner.Searching.{paramOf, meets, searched};
 use super::Carriage;
 use super::Param;
 use super::Searched;
@@ -13,7 +13,7 @@ use ddm_length::Marshaled;
 
 // The parameter at a payload byte: its length and code point, or a fault where it has none or raw length 0x8004.
 pub(crate) fn param_in(run: &[u8], c: Carriage, at: usize) -> Param
-    requires { ⌜ Sound c (now run) × (at ≤ length (carried c (now run))) ⌝ }
+    requires { ⌜ SoundCarriage c (now run) × (at ≤ length (carried c (now run))) ⌝ }
     ensures { λ r. ⌜ r ≡ paramOf (drop at (carried c (now (run .entry)))) ⌝ }
 {
     match carried::measure_in(run, c, at, 0) {
@@ -51,7 +51,7 @@ pub(crate) fn met_behind(met: Spot, wanted: u16, code_point: u16, at: usize, tot
 
 // The first parameter with a code point, once all of them are sound; places count from the data's first byte.
 pub(crate) fn search(run: &[u8], c: Carriage, first: usize, wanted: u16) -> Searched
-    requires { ⌜ Sound c (now run) × (first ≤ length (carried c (now run))) ⌝ }
+    requires { ⌜ SoundCarriage c (now run) × (first ≤ length (carried c (now run))) ⌝ }
     ensures { λ r. ⌜ r ≡ searched (drop first (carried c (now (run .entry)))) wanted ⌝ }
 {
     let end = carried::len_in(run, c) - first;

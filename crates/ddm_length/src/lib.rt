@@ -7,8 +7,8 @@ ghost use Rattle.wire.specs.Bytes.{laid};
 ghost use Rattle.answer.specs.Rooms.{Lays};
 ghost use Rattle.ddm_length.specs.Lengths.{refuse, extended, marshaled, measured};
 ghost use Rattle.ddm_length.specs.Markers.{markerFirst, hasMarkers, unmarked};
-ghost use Rattle.ddm_length.specs.Sums.{numbered};
-ghost use Rattle.ddm_length.specs.Pieces.{Past, Kept};
+ghost use Rattle.ddm_length.specs.inner.Numbered.{spelledNumber};
+ghost use Rattle.ddm_length.specs.inner.Keeping.{PastMarker, KeptPiece};
 use answer::Laid;
 use answer::Refusal;
 use answer::Refused;
@@ -48,7 +48,7 @@ fn refuse_at(place: usize, why: Refusal) -> Marshaled
 
 // The number that all bytes spell: a sum that is checked before each step.
 pub(crate) fn number_of(bytes: &[u8]) -> Number
-    ensures { λ r. ⌜ r ≡ numbered (now (bytes .entry)) ⌝ }
+    ensures { λ r. ⌜ r ≡ spelledNumber (now (bytes .entry)) ⌝ }
 {
     let mut n: usize = 0;
     let mut i = 0;
@@ -198,7 +198,7 @@ pub fn has_markers(data: &[u8]) -> bool
 // The place behind a marker at hand, or the place itself.
 pub(crate) fn past_marker(data: &[u8], at: usize) -> usize
     requires { ⌜ at < length (now «data») ⌝ }
-    ensures { λ r. ⌜ Past (now («data» .entry)) at r ⌝ }
+    ensures { λ r. ⌜ PastMarker (now («data» .entry)) at r ⌝ }
 {
     if marker_at(data, at) {
         return at + EXTENDED_DDM_CONTINUATION_MARKER_LEN;
@@ -209,7 +209,7 @@ pub(crate) fn past_marker(data: &[u8], at: usize) -> usize
 // The next part that is kept: behind a marker at hand, up to a chunk's length or the end.
 pub(crate) fn piece_at(data: &[u8], at: usize) -> Piece
     requires { ⌜ at < length (now «data») ⌝ }
-    ensures { λ r. ⌜ Kept (now («data» .entry)) at r ⌝ }
+    ensures { λ r. ⌜ KeptPiece (now («data» .entry)) at r ⌝ }
 {
     let from = past_marker(data, at);
     if data.len() - from <= EXTENDED_DDM_CONTINUATION_CHUNK_LEN {
@@ -273,11 +273,7 @@ pub fn strip_extended_ddm_continuation_markers(data: &[u8], work: &mut [u8]) -> 
 {
     let need = unmarked_len(data);
     if work.len() < need {
-        let why = Refusal::NoRoom {
-            bytes: need,
-            records: 0,
-        };
-        return Laid::Refused(Refused { why, place: 0 });
+        return Laid::Refused(Refused::no_room(need, 0, 0));
     }
     if has_markers(data) {
         lay_kept(data, work);

@@ -13,9 +13,11 @@ use Rattle.answer.specs.declared.Refused.{Refused}
 use Rattle.ddm_length.specs.Lengths.{marshaled, measured}
 use Rattle.ddm_length.specs.Markers.{keptFuel, unmarked}
 use Rattle.ddm_object.specs.Objects.{Object, object, parsed}
-use Rattle.ddm_object.specs.ObjectCalls.{objectAt, dataParsed}
-use Rattle.ddm_object.specs.Data.{Given, given-of, data-is, refused-data}
-use Rattle.ddm_object.specs.Parts.{dataPart, part-filled}
+use Rattle.ddm_object.specs.ObjectCalls.{objectAt}
+use Rattle.ddm_object.proofs.DataParsed.{dataParsed}
+use Rattle.ddm_object.proofs.DataLaws.{Given, given-of, data-is, refused-data}
+use Rattle.ddm_object.specs.DataParts.{dataPart}
+use Rattle.ddm_object.proofs.PartLaws.{part-filled}
 use Rattle.ddm_object.specs.declared.DdmObject.{DdmObject}
 use Rattle.ddm_object.specs.declared.ObjectFound.{ObjectFound}
 use Rattle.ddm_object.specs.declared.ObjectFound.the-variants.{Object as Gives, Refused as NotGiven}

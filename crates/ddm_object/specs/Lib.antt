@@ -1,12 +1,4 @@
 pub mod Objects
 pub mod ObjectCalls
-pub mod Reads
-pub mod Walks
-pub mod AllWalks
-pub mod Records
-pub mod Numbers
-pub mod Data
-pub mod Parts
-pub mod Listing
-pub mod Finding
-pub mod Rows
+pub mod DataParts
+pub mod inner

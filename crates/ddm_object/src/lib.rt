@@ -1,20 +1,12 @@
 // DDM objects and parameters: document 01, "DDM".
 mod record; // record.rt: the record of one object
-mod rows; // rows.rt: the work area and the row of a list
 
 ghost use mathlib.Core.Path.{_≡_};
-ghost use Prim.Native.Nat.{_+_, _<_, _^_};
-ghost use lib.ListN.{length};
-ghost use Rattle.ddm_object.specs.Objects.{objects, allObjects, parameters};
-ghost use Rattle.ddm_object.specs.ObjectCalls.{ObjectAt, ParsesObjects, ListsParameters, FindsParam, u16Of, u32Of, i32Of, totalLength};
-ghost use Rattle.wire.specs.Parts.{RestAt};
-ghost use Rattle.ddm_object.specs.Parts.{DataAt};
-ghost use Rattle.ddm_object.specs.Finding.{PlaceIs, stepAt};
-ghost use Rattle.ddm_object.specs.Listing.{measuredAll, Walked};
-ghost use Rattle.ddm_object.specs.Rows.{walkedAs, countOf, TakesWork};
+ghost use Rattle.ddm_object.specs.ObjectCalls.{ObjectAt, FindsParam, u16Of, u32Of, i32Of, objectTotal, paramStepAt};
+ghost use Rattle.ddm_object.specs.DataParts.{DataAt};
+ghost use Rattle.ddm_object.specs.inner.Walked.{PlaceIs};
 use answer::Refusal;
 use answer::Refused;
-use ddm_length::Marshaled;
 
 // An object or parameter as read: its code point, where its data lies, and how many bytes it takes. The data is a part of the
 // object's own run, or of the work area once markers came out.
@@ -29,13 +21,6 @@ pub struct DdmObject {
 // What parsing one object, or finding one parameter, comes to.
 pub enum ObjectFound {
     Object(DdmObject),
-    Refused(Refused),
-}
-
-// What listing all objects, or all parameters, comes to: how many records stand in the row, and how many bytes of the work
-// area are filled.
-pub enum ObjectsFound {
-    Objects { count: usize, work: usize },
     Refused(Refused),
 }
 
@@ -60,11 +45,8 @@ pub fn object_at(run: &[u8], at: usize, work: &mut [u8]) -> ObjectFound
     ensures { λ r. ⌜ ObjectAt (now (run .entry)) at (now (work .entry)) r (now (work .exit)) ⌝ }
 {
     if run.len() < at {
-        let why = Refusal::OutOfBounds {
-            mark: at,
-            length: run.len(),
-        };
-        return ObjectFound::Refused(Refused { why, place: at });
+        let refused = Refused::out_of_bounds(at, run.len());
+        return ObjectFound::Refused(refused);
     }
     record::parse_in(&run[at..], at, at, work)
 }
@@ -79,7 +61,7 @@ impl DdmObject {
 
     // How many bytes the builder would make of the object's data; above 2^64 - 1 it is given as that.
     pub fn total_length(self) -> usize
-        ensures { λ r. ⌜ r ≡ totalLength self ⌝ }
+        ensures { λ r. ⌜ r ≡ objectTotal self ⌝ }
     {
         ddm_builder::built_size(self.data_len)
     }
@@ -153,79 +135,7 @@ pub fn object_data<'a>(run: &'a [u8], at: usize, work: &'a [u8]) -> &'a [u8]
             return &run[from..from + n];
         }
         ObjectFound::Refused(_) => {
-            return &run[at..at];
-        }
-    }
-}
-
-// What the walk over all objects, or all parameters, comes to: how many there are, how much of the work area they need, and
-// where it stops.
-pub(crate) struct Extent {
-    pub count: usize,
-    pub work: usize,
-    pub end: usize,
-}
-
-// Walks from object to object by measuring alone, up to the first that is refused.
-pub(crate) fn walk(data: &[u8]) -> Extent
-    ensures { λ r. ⌜ Walked (now («data» .entry)) r ⌝ }
-{
-    let mut count: usize = 0;
-    let mut work: usize = 0;
-    let mut at: usize = 0;
-    loop {
-        match record::record_at(data, at) {
-            ObjectFound::Object(o) => {
-                work += record::work_len(o);
-                count += 1;
-                at += o.consumed;
-            }
-            ObjectFound::Refused(_) => {
-                return Extent {
-                    count,
-                    work,
-                    end: at,
-                };
-            }
-        }
-    }
-}
-
-// How many parameters there are, and how much of the work area they need.
-pub fn measure_parameters(data: &[u8]) -> ObjectsFound
-    ensures { λ r. ⌜ r ≡ measuredAll (now («data» .entry)) (objects (parameters (now («data» .entry)))) ⌝ }
-{
-    let w = walk(data);
-    ObjectsFound::Objects {
-        count: w.count,
-        work: w.work,
-    }
-}
-
-// The same of all objects of a run, or the refusal of one of them.
-pub fn measure_objects(run: &[u8]) -> ObjectsFound
-    ensures { λ r. ⌜ r ≡ measuredAll (now (run .entry)) (allObjects (now (run .entry))) ⌝ }
-{
-    let w = walk(run);
-    let end = w.end;
-    if run.len() - end < 4 {
-        return ObjectsFound::Objects {
-            count: w.count,
-            work: w.work,
-        };
-    }
-    match ddm_length::measure_at(&run[end..], end) {
-        Marshaled::Refused(r) => {
-            return ObjectsFound::Refused(r);
-        }
-        Marshaled::Takes {
-            total: _,
-            header: _,
-        } => {
-            return ObjectsFound::Objects {
-                count: w.count,
-                work: w.work,
-            };
+            return &run[at..at]; // refused
         }
     }
 }
@@ -280,14 +190,11 @@ pub enum Stepped {
 
 // 10, then 11 where the list ends, both at the place.
 pub fn step_at(data: &[u8], at: usize) -> Stepped
-    ensures { λ r. ⌜ r ≡ stepAt (now («data» .entry)) at ⌝ }
+    ensures { λ r. ⌜ r ≡ paramStepAt (now («data» .entry)) at ⌝ }
 {
     if data.len() < at {
-        let why = Refusal::OutOfBounds {
-            mark: at,
-            length: data.len(),
-        };
-        return Stepped::Refused(Refused { why, place: at });
+        let refused = Refused::out_of_bounds(at, data.len());
+        return Stepped::Refused(refused);
     }
     match record::record_at(data, at) {
         ObjectFound::Object(o) => {
@@ -298,93 +205,5 @@ pub fn step_at(data: &[u8], at: usize) -> Stepped
             let why = Refusal::NotFound;
             return Stepped::Refused(Refused { why, place: at });
         }
-    }
-}
-
-// All but the row: measures, tests work area and row, lays into the work area, and answers.
-pub fn take_as(data: &[u8], whole: bool, work: &mut [u8], rows: usize) -> ObjectsFound
-    ensures { λ r. ⌜ TakesWork (now («data» .entry)) (walkedAs whole (now («data» .entry))) (now (work .entry)) rows r (now (work .exit)) ⌝ }
-{
-    match rows::measure_as(data, whole) {
-        ObjectsFound::Objects { count, work: need } => {
-            return rows::take_listed(data, count, need, work, rows);
-        }
-        ObjectsFound::Refused(r) => {
-            return ObjectsFound::Refused(r);
-        }
-    }
-}
-
-// How many records an answer has.
-pub fn count_of(found: ObjectsFound) -> usize
-    ensures { λ r. ⌜ r ≡ countOf found ⌝ }
-{
-    match found {
-        ObjectsFound::Objects { count, work: _ } => count,
-        ObjectsFound::Refused(_) => 0,
-    }
-}
-
-// All objects of a run, one record each; it ignores 1 to 3 last bytes, and is refused whole on any refusal.
-pub fn parse_ddm_objects(bytes: &[u8], work: &mut [u8], row: &mut [DdmObject]) -> ObjectsFound
-    ensures { λ r. ⌜ ParsesObjects (now (bytes .entry)) (now (work .entry)) (now (row .entry)) r (now (work .exit)) (now (row .exit)) ⌝ }
-{
-    rows::list(bytes, true, work, row)
-}
-
-// All parameters of an object's data, one record each; anything unfit ends the list silently.
-pub fn parameters(data: &[u8], work: &mut [u8], row: &mut [DdmObject]) -> ObjectsFound
-    ensures { λ r. ⌜ ListsParameters (now («data» .entry)) (now (work .entry)) (now (row .entry)) r (now (work .exit)) (now (row .exit)) ⌝ }
-{
-    rows::list(data, false, work, row)
-}
-
-// All that stands from a place on; beyond the data it is the empty part at its end.
-pub fn rest_at(data: &[u8], at: usize) -> &[u8]
-    ensures { λ r. ⌜ RestAt («data» .entry) at r ⌝ }
-{
-    if data.len() < at {
-        let end = data.len();
-        return &data[end..];
-    }
-    &data[at..]
-}
-
-// A parameter walker remembers the data and its place.
-pub struct Walker<'a> {
-    pub data: &'a [u8],
-    pub at: usize,
-}
-
-impl<'a> Walker<'a> {
-    // At the first parameter.
-    pub fn new(data: &'a [u8]) -> Walker<'a>
-        ensures { λ r. ⌜ (r .«data» ≡ «data» .entry) × (r .at ≡ 0) ⌝ }
-    {
-        Walker { data, at: 0 }
-    }
-
-    // The parameter at its place and the next place, or a refusal.
-    pub fn step(self) -> Stepped
-        ensures { λ s. ⌜ s ≡ stepAt (now (self .entry .«data»)) (self .entry .at) ⌝ }
-    {
-        step_at(self.data, self.at)
-    }
-
-    // The same data, at another place.
-    pub fn moved(self, at: usize) -> Walker<'a>
-        ensures { λ r. ⌜ (r .«data» ≡ self .entry .«data») × (r .at ≡ at) ⌝ }
-    {
-        Walker {
-            data: self.data,
-            at,
-        }
-    }
-
-    // What is left of the data.
-    pub fn rest(self) -> &'a [u8]
-        ensures { λ r. ⌜ RestAt (self .entry .«data») (self .entry .at) r ⌝ }
-    {
-        rest_at(self.data, self.at)
     }
 }

@@ -3,10 +3,9 @@ ghost use mathlib.Core.Path.{_≡_};
 ghost use Prim.Native.Nat.{_+_, _≤_, _<_, _^_};
 ghost use lib.ListN.{length, drop};
 ghost use Rattle.ddm_object.specs.ObjectCalls.{inWork};
-ghost use Rattle.ddm_object.specs.Records.{recordFound, workLen, GivesIn};
+ghost use Rattle.ddm_object.specs.inner.RecordsGiven.{recordFound, GivesIn};
 use super::DdmObject;
 use super::ObjectFound;
-use answer::Refusal;
 use answer::Refused;
 use ddm_length::Marshaled;
 
@@ -63,16 +62,6 @@ pub(crate) fn record_at(run: &[u8], at: usize) -> ObjectFound
     record_in(&run[at..], at)
 }
 
-// How much of the work area a record needs.
-pub(crate) fn work_len(o: DdmObject) -> usize
-    ensures { λ r. ⌜ r ≡ workLen o ⌝ }
-{
-    if o.in_work {
-        return o.data_len;
-    }
-    0
-}
-
 // An object whose record is found first, and whose data then go into the work area: 9 at the position that the call has.
 pub(crate) fn parse_in(bytes: &[u8], place: usize, position: usize, work: &mut [u8]) -> ObjectFound
     requires { ⌜ place + length (now bytes) < 2 ^ 64 ⌝ }
@@ -83,14 +72,8 @@ pub(crate) fn parse_in(bytes: &[u8], place: usize, position: usize, work: &mut [
             if o.in_work {
                 let need = o.data_len;
                 if work.len() < need {
-                    let why = Refusal::NoRoom {
-                        bytes: need,
-                        records: 0,
-                    };
-                    return ObjectFound::Refused(Refused {
-                        why,
-                        place: position,
-                    });
+                    let refused = Refused::no_room(need, 0, position);
+                    return ObjectFound::Refused(refused);
                 }
                 ddm_length::strip_extended_ddm_continuation_markers(&bytes[4..], work);
                 return ObjectFound::Object(o);

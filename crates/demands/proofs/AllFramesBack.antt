@@ -5,19 +5,20 @@ use mathlib.Core.Path.{_≡_, refl, ap, _∙_}
 use mathlib.Core.List.{List, [], _∷_}
 use lib.ListN.{length, drop, length-append}
 use borrow.Author.Tests.{lt-ltb, le-leb}
-use Rattle.wire.specs.Laws.{pick-yes}
-use Rattle.wire.specs.Places.{here-next}
+use Rattle.wire.proofs.WireLaws.{pick-yes}
+use Rattle.wire.proofs.Places.{here-next}
 use Rattle.answer.specs.declared.Refusal.the-variants.{Incomplete}
 use Rattle.dss_frame.specs.declared.Rules.the-variants.{Reader}
 use Rattle.dss_frame.specs.Segments.{frameWalk}
 use Rattle.dss_frame.specs.Reading.{Frame, refused, readWalk, readAt}
 use Rattle.dss_frame.specs.Frames.{frames, before, allFrames}
 use Rattle.dss_frame.specs.Written.{Sent, written}
-use Rattle.demands.specs.AllFrames.{AllAlone, joined, AllGive, ReadsAll}
-use Rattle.dss_laws.specs.Looks.{look-nothing}
-use Rattle.dss_laws.specs.Framed.{segments-end}
-use Rattle.dss_laws.specs.Writing.{framed-written}
-use Rattle.dss_laws.specs.AllFrames.{frames-more, frames-end}
+use Rattle.demands.specs.AllFrames.{AllAlone, AllGive, ReadsAll}
+use Rattle.wire.specs.Bytes.{joined}
+use Rattle.dss_laws.proofs.Looking.{look-nothing}
+use Rattle.dss_laws.proofs.Framed.{segments-end}
+use Rattle.dss_laws.proofs.WritingLaws.{framed-written}
+use Rattle.dss_laws.proofs.FramesLaws.{frames-more, frames-end}
 use Rattle.demands.proofs.WrittenFrames.{Closed, sentAt, read-written, gives-written}
 use Rattle.demands.proofs.Standing.{closed-stands}
 

@@ -7,9 +7,9 @@ use mathlib.Core.Logic.{inl, inr}
 use mathlib.Core.Bool.{Bool, true, false}
 use mathlib.Core.List.{List, [], _∷_}
 use lib.ListN.{length}
-use Rattle.wire.specs.Bytes.{last}
-use Rattle.wire.specs.Laws.{true-false}
-use Rattle.wire.specs.Octets.{octets-tested}
+use Rattle.wire.specs.Bytes.{last, joined}
+use Rattle.wire.proofs.WireLaws.{true-false}
+use Rattle.wire.proofs.OctetLaws.{octets-tested}
 use Rattle.dss_head.specs.declared.DssType.the-variants.{Reply, Object}
 use Rattle.dss_frame.specs.Segments.{payloadOf, endOf, frameWalk, continuations, walkFuel}
 use Rattle.dss_frame.specs.Reading.{Frame, readAt, absorb, absorbFuel, look}
@@ -17,7 +17,7 @@ use Rattle.dss_frame.specs.Frames.{AllRead, frames, refusedAll, framesFuel, all
 use Rattle.dss_frame.specs.Written.{Sent, written, chunks, chunksFuel}
 use Rattle.ddm_builder.specs.Built.{built, lengthBytes}
 use Rattle.demands.specs.Demands.{Writer, StartsObject}
-use Rattle.demands.specs.AllFrames.{Alone, AllAlone, joined, AllGive, ReadsAll}
+use Rattle.demands.specs.AllFrames.{Alone, AllAlone, AllGive, ReadsAll}
 use Rattle.demands.proofs.AllFramesBack.{reads-all}
 
 unfoldable pub reply : Sent

@@ -8,8 +8,8 @@ use mathlib.Core.List.{List, [], _∷_, _++_}
 use lib.Dec.{ltb, leb, eqb}
 use lib.ListN.{length}
 use borrow.Author.Tests.{eqb-true, eqb-false, le-leb}
-use Rattle.wire.specs.Bytes.{pick, be16}
-use Rattle.wire.specs.Laws.{by, pick-yes}
+use Rattle.wire.specs.Bytes.{pick, be16, joined}
+use Rattle.wire.proofs.WireLaws.{by, pick-yes}
 use Rattle.answer.specs.Numbers.{notWhole}
 use Rattle.answer.specs.Rooms.{outOfBounds}
 use Rattle.answer.specs.declared.Refused.{Refused}
@@ -20,13 +20,13 @@ use Rattle.dss_frame.specs.declared.Rules.the-variants.{Reader, Salvage}
 use Rattle.dss_frame.specs.Segments.{Segment, Walk, whole, short, dead, behind, continuation, first, step, walkFuel, continuations, frameWalk, payloadOf, endOf}
 use Rattle.dss_frame.specs.Reading.{Read, frame, refused, Frame, readWalk, readAt}
 use Rattle.dss_frame.specs.Frames.{AllRead, frames, refusedAll, before, andOn, framesFuel, allFrames}
-use Rattle.dss_frame.specs.Records.{recordOf, payloadsOf, recordsOf}
+use Rattle.dss_frame.specs.FrameRecords.{frameRecord, payloadsOf, frameRecords}
 use Rattle.dss_frame.specs.Salvage.{Salvaged, entry, atWalk, salvageFuel, salvaged}
-use Rattle.dss_laws.specs.RawLengths.{chunk-same, chunk-full-low, chunk-last-full, full-above}
-use Rattle.dss_laws.specs.Bounds.{OfFrame, is-frame, is-refused, Past, read-past}
+use Rattle.dss_laws.proofs.RawLengths.{chunk-same, chunk-full-low, chunk-last-full, full-above}
+use Rattle.dss_laws.proofs.Bounds.{OfFrame, is-frame, is-refused, Past, read-past}
 use Rattle.dss_reader.specs.Reader.{endFound, frameEnd}
-use Rattle.dss_salvage.specs.SalvageCall.{salvagedBytes, salvagedRow}
-use Rattle.gateway_row.specs.RowWords.{recordWords, joined}
+use Rattle.dss_salvage.specs.SalvageEntries.{salvagedBytes, salvagedRow}
+use Rattle.gateway_row.specs.RowWords.{recordWords}
 use Rattle.gateway_salvage.specs.SalvageWords.{entryWords}
 use Rattle.demands.specs.Mending.{waits}
 use Rattle.demands.specs.AsRead.{MeetsFull, NoneFull, entriesOf, SalvagesAsRead, TellsWhy}
@@ -208,8 +208,8 @@ unfolding entriesOf salvagedBytes payloadsOf
 entries-bytes s p [] = refl
 entries-bytes s p (f ∷ fs) = ap (λ (b : List ℕ). payloadOf s (f .segments) ++ b) (entries-bytes s (endOf p (f .segments)) fs)
 
-pub entries-words : (s : List ℕ) (p at : ℕ) (fs : List Frame) → joined entryWords (salvagedRow s at (entriesOf p fs)) ≡ joined recordWords (recordsOf s p at fs)
-unfolding entriesOf salvagedRow recordsOf joined
+pub entries-words : (s : List ℕ) (p at : ℕ) (fs : List Frame) → joined entryWords (salvagedRow s at (entriesOf p fs)) ≡ joined recordWords (frameRecords s p at fs)
+unfolding entriesOf salvagedRow frameRecords joined
 entries-words s p at [] = refl
 entries-words s p at (f ∷ fs) =
-    ap (λ (w : List ℕ). recordWords (recordOf s p at f) ++ w) (entries-words s (endOf p (f .segments)) (at + length (payloadOf s (f .segments))) fs)
+    ap (λ (w : List ℕ). recordWords (frameRecord s p at f) ++ w) (entries-words s (endOf p (f .segments)) (at + length (payloadOf s (f .segments))) fs)

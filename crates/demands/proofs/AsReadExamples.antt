@@ -7,7 +7,7 @@ use mathlib.Core.Bool.{false}
 use mathlib.Core.List.{List, [], _∷_, _++_, append-nil, map}
 use lib.ListN.{length, replicate, length-replicate}
 use contract.Lifetimes.{Lfts}
-use Rattle.wire.specs.Bytes.{be16, splice, laid}
+use Rattle.wire.specs.Bytes.{be16, splice, laid, joined}
 use Rattle.answer.specs.declared.Refusal.the-variants.{Incomplete, DeadContinuation}
 use Rattle.answer.specs.declared.Refused.{Refused}
 use Rattle.dss_head.specs.declared.DssType.the-variants.{Reply, Object}
@@ -15,23 +15,22 @@ use Rattle.dss_frame.specs.declared.Rules.the-variants.{Salvage}
 use Rattle.dss_frame.specs.Segments.{short, dead, payloadOf, endOf, frameWalk, continuations, walkFuel}
 use Rattle.dss_frame.specs.Reading.{Frame, frame, readAt, absorb, absorbFuel, look}
 use Rattle.dss_frame.specs.Frames.{AllRead, frames, refusedAll, allFrames, framesFuel}
-use Rattle.dss_frame.specs.Records.{payloadsOf, recordsOf}
+use Rattle.dss_frame.specs.FrameRecords.{payloadsOf, frameRecords}
 use Rattle.dss_frame.specs.Salvage.{Entry, Salvaged, salvaged, salvageFuel}
 use Rattle.dss_frame.specs.Written.{Sent, written, chunks, chunksFuel}
-use Rattle.dss_laws.specs.AllFrames.{frames-end}
+use Rattle.dss_laws.proofs.FramesLaws.{frames-end}
 use Rattle.dss_reader.specs.Reader.{frameEnd}
 use Rattle.dss_reader.specs.declared.FrameEnd.the-variants.{Refused as NoEnd}
-use Rattle.dss_salvage.specs.SalvageCall.{salvagedBytes, salvagedRow}
-use Rattle.gateway_row.specs.RowWords.{joined}
+use Rattle.dss_salvage.specs.SalvageEntries.{salvagedBytes, salvagedRow}
 use Rattle.gateway_frames.proofs.lattrugone_read_all_frames.Reads as lattrugone-read-all-frames
 use Rattle.gateway_salvage.proofs.lattrugone_salvage.Reads as lattrugone-salvage
 use Rattle.demands.specs.Demands.{Sendable, Unreadable, Stands, Item, good, run, AllDue, Salvages}
 use Rattle.demands.specs.AsRead.{MeetsFull, NoneFull, entriesOf}
-use Rattle.demands.specs.Table.{p2}
-use Rattle.demands.specs.Edges.{full}
+use Rattle.demands.proofs.Table.{p2}
+use Rattle.demands.proofs.Edges.{full}
 use Rattle.demands.proofs.ReadBack.{not-whole}
 use Rattle.demands.proofs.AsRead.{salvages-as-read, tells-why}
-use Rattle.demands.proofs.KeptMeaning.{SameInWords}
+use Rattle.demands.specs.KeptMeaning.{SameInWords}
 use Rattle.demands.proofs.Kept.{exported-salvaged-as-read}
 use Rattle.demands.proofs.KeptExamples.{lending}
 use Rattle.demands.proofs.SeveralRun.{sized, sendable}
@@ -108,7 +107,7 @@ left-row = 0 ∷ 0 ∷ 6 ∷ 0x02 ∷ 7 ∷ 0 ∷ 1 ∷ 0 ∷ 0 ∷ 6 ∷ 9 ∷ 
 
 left-reads : (κs : Lfts 4) → lattrugone-read-all-frames.Post κs (lending left, (0, (lending (9 ∷ []), (lending (replicate 11 9), (lending (replicate 8 9), tt)))))
     0 (lending left, (0, (lending (9 ∷ []), (lending left-row, (lending (0 ∷ 6 ∷ 1 ∷ 0 ∷ 0 ∷ 0 ∷ 0 ∷ 0 ∷ []), tt)))))
-unfolding splice laid allFrames framesFuel readAt absorb absorbFuel look payloadOf endOf frameWalk continuations walkFuel payloadsOf recordsOf joined
+unfolding splice laid allFrames framesFuel readAt absorb absorbFuel look payloadOf endOf frameWalk continuations walkFuel payloadsOf frameRecords joined
 left-reads κs = record { answers = record { number-is = refl; words-are = refl }; room-is = refl; row-is = refl }
 
 left-salvages : (κs : Lfts 4) → lattrugone-salvage.Post κs (lending left, (lending (9 ∷ []), (lending (replicate 11 9), (lending (replicate 8 9), tt))))

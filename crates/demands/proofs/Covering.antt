@@ -12,8 +12,8 @@ use Rattle.dss_frame.specs.Segments.{Walk, endOf, frameWalk}
 use Rattle.dss_frame.specs.Reading.{Read, readAt}
 use Rattle.dss_frame.specs.Salvage.{Salvaged, entry, stop, atWalk, salvageFuel, salvaged}
 use Rattle.demands.specs.Demands.{Gapless, InOrder, Covered, Covers}
-use Rattle.wire.specs.Laws.{pick-by}
-use Rattle.dss_laws.specs.Bounds.{OfWhole, is-whole, is-short, is-dead, Six, walk-six, OfFrame, is-frame, is-refused, Past, read-past}
+use Rattle.wire.proofs.WireLaws.{pick-by}
+use Rattle.dss_laws.proofs.Bounds.{OfWhole, is-whole, is-short, is-dead, Six, walk-six, OfFrame, is-frame, is-refused, Past, read-past}
 
 stopped : (s : List ℕ) (p : ℕ) → p ≤ length s → Covered s p (stop p)
 unfolding Gapless InOrder

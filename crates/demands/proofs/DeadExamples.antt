@@ -15,7 +15,7 @@ use Rattle.dss_frame.specs.Reading.{readAt, absorb, absorbFuel, look}
 use Rattle.dss_reader.specs.Reader.{standsAt, frameEnd}
 use Rattle.dss_reader.specs.declared.FrameRead.{FrameRead}
 use Rattle.dss_reader.specs.declared.FrameRead.the-variants.{Refused as NotRead}
-use Rattle.demands.specs.DeadEdges.{fulls, several, behind-reply}
+use Rattle.demands.proofs.DeadEdges.{fulls, several, behind-reply}
 use Rattle.demands.proofs.Kept.{read-refused, dead-again, exported-dead-again, exported-taken-by-end}
 use Rattle.demands.proofs.KeptExamples.{lending}
 

@@ -7,7 +7,7 @@ use mathlib.Core.Bool.{true, false}
 use mathlib.Core.List.{List, [], _∷_, _++_, map}
 use lib.ListN.{length, getD}
 use Rattle.wire.specs.Bytes.{last}
-use Rattle.wire.specs.Octets.{octets-tested}
+use Rattle.wire.proofs.OctetLaws.{octets-tested}
 use Rattle.answer.specs.declared.Refusal.the-variants.{InvalidMagic}
 use Rattle.dss_head.specs.declared.DssType.the-variants.{Reply, Object}
 use Rattle.dss_frame.specs.Segments.{payloadOf, endOf, frameWalk, continuations, walkFuel}
@@ -17,7 +17,7 @@ use Rattle.dss_frame.specs.Written.{Sent, written, chunks, chunksFuel}
 use Rattle.ddm_builder.specs.Built.{built, lengthBytes}
 use Rattle.demands.specs.Demands.{Sendable, StartsObject, Spoilt, LengthField, Item, good, spoilt, run, AllDue, Salvages}
 use Rattle.demands.proofs.Salvaging.{salvages}
-use Rattle.demands.proofs.SalvageKeeps.{allBytes}
+use Rattle.demands.specs.KeptLists.{allBytes}
 
 pub reply : Sent
 reply = record { type = Reply; chained = true; same = false; correlation = 1; payload = 0xAA ∷ [] }

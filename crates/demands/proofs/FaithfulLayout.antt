@@ -11,7 +11,7 @@ use borrow.Author.Tests.{eq-eqb, ne-eqb}
 use Rattle.wire.specs.Bytes.{pick, be16, two}
 use Rattle.dss_head.specs.Heads.{bit}
 use Rattle.layouts.specs.DssLayout.{Structure, Allowed, Continued, ends, goes-on, Dss, one, several, format, rest}
-use Rattle.demands.specs.Layouts.{LayoutFixes}
+use Rattle.demands.specs.DssLayouts.{LayoutFixes}
 
 -- ---- the format byte says type and flags
 

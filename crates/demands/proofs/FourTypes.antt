@@ -9,7 +9,7 @@ use lib.Dec.{ltb, leb, eqb}
 use lib.ListN.{length, getD}
 use borrow.Author.Tests.{ne-eqb, eqb-true, eqb-false}
 use Rattle.wire.specs.Bytes.{be16}
-use Rattle.wire.specs.Laws.{by}
+use Rattle.wire.proofs.WireLaws.{by}
 use Rattle.answer.specs.declared.Refused.{Refused}
 use Rattle.dss_head.specs.Heads.{typeAt, headWith, headAt}
 use Rattle.dss_head.specs.declared.DssType.{DssType}
@@ -23,7 +23,7 @@ use Rattle.dss_frame.specs.declared.Rules.the-variants.{Reader}
 use Rattle.dss_frame.specs.Segments.{Segment, Walk, whole, short, dead, payloadOf, endOf, frameWalk, continuations, walkFuel}
 use Rattle.dss_frame.specs.Reading.{Read, frame, refused, Look, finished, absorbs, refuses, look, lookAt, withChained, behindFrame, absorb, absorbFuel, readHead, readWalk, readAt, startsExtended, ifWhole}
 use Rattle.dss_frame.specs.Frames.{AllRead, refusedAll, before, andOn, framesFuel, allFrames}
-use Rattle.demands.specs.Table.{p2}
+use Rattle.demands.proofs.Table.{p2}
 use Rattle.demands.specs.FourTypes.{fourTypes, Heads, fourHeads, lookBy, absorbBy, readHeadBy, readBy, allFuelBy, allBy, TypesAsFour, typeFive, FiveAt, SameOrFive, HeadsAsFour, ReadsAsFour, AllAsFour}
 use Rattle.demands.proofs.LongerRuns.{picks}
 use Rattle.demands.proofs.Impostors.{frame-refused}

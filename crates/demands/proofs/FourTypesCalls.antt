@@ -20,7 +20,7 @@ use Rattle.gateway_reader.specs.ReaderWords.{ReadsFrame}
 use Rattle.gateway_frames.specs.FramesWords.{ReadsAllFrames}
 use Rattle.demands.specs.FourTypes.{fourTypes, fourHeads, readBy, allBy, FiveRefused, SameOrFive}
 use Rattle.demands.proofs.FourTypes.{types-as-four, heads-as-four, reads-as-four, all-as-four}
-use Rattle.demands.proofs.KeptMeaning.{AnsweredAs, AnsweredInWordsAs, AllAnsweredInWordsAs}
+use Rattle.demands.specs.KeptMeaning.{AnsweredAs, AnsweredInWordsAs, AllAnsweredInWordsAs}
 
 pub from-byte-four : (κs : Lfts 0) (b : ℕ) (r : TypeFound) → (b % 16 ≡ 5 → ⊥) → from-byte.Post κs (b, tt) r (b, tt) → r ≡ fourTypes b 0
 from-byte-four κs b r h p = p ∙ types-as-four b 0 h

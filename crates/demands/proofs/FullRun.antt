@@ -7,7 +7,8 @@ use mathlib.Core.Logic.{inl}
 use mathlib.Core.Bool.{false}
 use mathlib.Core.List.{List, [], _∷_, _++_}
 use lib.ListN.{length, take, replicate}
-use Rattle.wire.specs.Octets.{octets-tested}
+use Rattle.dss_salvage_call.specs.SalvageCall.{SalvagesRun}
+use Rattle.wire.proofs.OctetLaws.{octets-tested}
 use Rattle.answer.specs.declared.Refusal.the-variants.{InvalidMagic}
 use Rattle.dss_head.specs.declared.DssType.{DssType}
 use Rattle.dss_head.specs.declared.DssType.the-variants.{Reply, Object}
@@ -17,15 +18,15 @@ use Rattle.dss_frame.specs.Reading.{frame, refused, readAt, absorb, absorbFuel,
 use Rattle.dss_frame.specs.Frames.{refusedAll, allFrames, framesFuel}
 use Rattle.dss_frame.specs.Salvage.{salvaged, salvageFuel}
 use Rattle.dss_frame.specs.Written.{written, chunks, chunksFuel}
-use Rattle.dss_salvage.specs.SalvageCall as call
 use Rattle.dss_salvage.specs.declared.SalvageEntry.{SalvageEntry}
 use Rattle.dss_salvage.specs.declared.Salvaged.{Salvaged}
 use Rattle.dss_salvage.specs.declared.Salvaged.the-variants.{Done}
-use Rattle.gateway_words.specs.Words.{doneWords}
+use Rattle.gateway_words.specs.AnswerWords.{doneWords}
 use Rattle.gateway_salvage.specs.SalvageWords.{SalvagesInWords}
 use Rattle.demands.specs.Demands.{Spoilt, Item, good, spoilt, run, AllDue}
 use Rattle.demands.proofs.Salvaging.{salvages}
-use Rattle.demands.proofs.SalvageKeeps.{allBytes, answered}
+use Rattle.demands.specs.KeptLists.{allBytes}
+use Rattle.demands.proofs.SalvageKeeps.{answered}
 use Rattle.demands.proofs.KeptRows.{recovers-words}
 use Rattle.demands.proofs.SeveralRun.{sized, sendable, agree, small}
 
@@ -101,7 +102,7 @@ sizes = (refl, refl, refl)
 
 -- with a room of 65,528 bytes and a row of four, whatever its contract allows answers 0
 pub fulls-answered : (room : List ℕ) (row : List SalvageEntry) → 65528 ≤ length room → 4 ≤ length row → (r : Salvaged) (roomAfter : List ℕ) (rowAfter : List SalvageEntry)
-    → call.Salvages (run fulls) room row r roomAfter rowAfter → r ≡ Done 4 65528 131082
+    → SalvagesRun (run fulls) room row r roomAfter rowAfter → r ≡ Done 4 65528 131082
 fulls-answered = answered fulls 4 65528 131082 sizes
 
 -- and so does the exported function, lent as many words as four records and an answer have

@@ -19,7 +19,8 @@ use ghost.Atoms.{Atoms}
 use contract.Lifetimes.{Lfts}
 use contract.Monad.{Fun, fact, fact-mono}
 use denote.Ref.{RefT, at-last}
-use Rattle.wire.specs.Bytes.{part}
+use Rattle.gateway_words.specs.AnswerWords.{answerLen}
+use Rattle.wire.specs.Bytes.{part, joined}
 use Rattle.answer.specs.Numbers.{numberOf}
 use Rattle.answer.specs.declared.Refused.{Refused}
 use Rattle.dss_head.specs.Heads.{typeAt, headAt, bit}
@@ -33,7 +34,7 @@ use Rattle.dss_head.proofs.DssHeader.parse.Reads as parse
 use Rattle.dss_frame.specs.Written.{Sent, written}
 use Rattle.dss_frame.specs.Reading.{Frame, refused, readAt, positionAfter}
 use Rattle.dss_frame.specs.Frames.{frames, refusedAll, allFrames}
-use Rattle.dss_frame.specs.Records.{payloadsOf}
+use Rattle.dss_frame.specs.FrameRecords.{payloadsOf}
 use Rattle.dss_frame.specs.Salvage.{salvaged}
 use Rattle.dss_frame.specs.declared.DssFrame.{DssFrame}
 use Rattle.dss_frame.specs.declared.Rules.{Rules}
@@ -73,11 +74,11 @@ use Rattle.gateway_salvage.specs.SalvageWords.{SalvagesInWords}
 use Rattle.gateway_salvage.proofs.lattrugone_salvage.Reads as lattrugone-salvage
 use Rattle.layouts.specs.DssLayout.{Structure, Allowed, Dss, FullLast}
 use Rattle.demands.specs.Demands.{Sendable, Unreadable, ReadsEverySize, Item, run}
-use Rattle.demands.specs.AllFrames.{AllAlone, joined}
+use Rattle.demands.specs.AllFrames.{AllAlone}
 use Rattle.demands.specs.FourTypes.{fourTypes, fourHeads, readBy, allBy, TypesAsFour, FiveRefused, SameOrFive, HeadsAsFour, ReadsAsFour, AllAsFour}
 use Rattle.demands.specs.NoReply.{RefusesSpoilt}
 use Rattle.demands.specs.AsRead.{NoneFull, SalvagesAsRead, TellsWhy}
-use Rattle.demands.specs.Layouts.{structureOf, WritesLayout, ReadsLayout, ReadsFullLast, WaitsBehindFull, LayoutFixes}
+use Rattle.demands.specs.DssLayouts.{structureOf, WritesLayout, ReadsDssLayout, ReadsFullLast, WaitsBehindFull, LayoutFixes}
 use Rattle.demands.specs.Longer.{TakenStay, WaitingLosesNothing}
 use Rattle.demands.specs.Mending.{StopsWaiting, decided}
 use Rattle.demands.proofs.WrittenLayout.{writes-layout}
@@ -94,11 +95,11 @@ use Rattle.demands.proofs.AsReadCalls.{as-read-words}
 use Rattle.demands.proofs.FourTypes.{types-as-four, heads-as-four, reads-as-four, all-as-four}
 use Rattle.demands.proofs.FourTypesCalls.{from-byte-four, parse-four, next-frame-four, words-four, all-words-four}
 use Rattle.demands.proofs.SpoiltFrames.{refuses-spoilt}
-use Rattle.demands.proofs.ReaderKeeps.{payloads, AllBack}
+use Rattle.demands.specs.KeptLists.{payloads, AllBack, allBytes, Recovered}
+use Rattle.demands.specs.KeptCalls.{askedOf, Calls, askedInWords, ExportedCalls}
+use Rattle.demands.specs.KeptMeaning.{markBehind, ReadAgain, NotReadAgain, ReadAgainInWords, NotReadAgainInWords, AllBackInWords, RecoveredInWords, RefusedInWords, SameInWords, StructureBack, StructureBackInWords, LaidInWords, notYet, RefusedAs, AnsweredAs, AnsweredInWordsAs, AllAnsweredInWordsAs}
 use Rattle.demands.proofs.ReaderClauses.{read-all-frames-back}
-use Rattle.demands.proofs.SalvageKeeps.{allBytes, Recovered}
 use Rattle.demands.proofs.SalvageClauses.{salvage-recovers, salvage-refuses}
-use Rattle.demands.proofs.KeptMeaning.{behind, ReadAgain, NotReadAgain, ReadAgainInWords, NotReadAgainInWords, AllBackInWords, RecoveredInWords, RefusedInWords, SameInWords, StructureBack, StructureBackInWords, LaidInWords, notYet, RefusedAs, AnsweredAs, AnsweredInWordsAs, AllAnsweredInWordsAs}
 use Rattle.demands.proofs.KeptFrame.{read-again, not-read-again, read-again-words, not-read-again-words}
 use Rattle.demands.proofs.KeptLayouts.{laid-in-words, structure-back, full-last}
 use Rattle.demands.proofs.KeptRows.{frames-back-words, recovers-words}
@@ -170,50 +171,30 @@ module _ (words : RefT (List ℕ)) (number : ℕ) (answer : List ℕ) (other : n
 -- ---- Demand 2, one frame
 
 module _ (κs κs′ : Lfts 2) (w : DssWriter) (t : DssType) (chained same : Bool) (payload room : RefT (List ℕ)) (wrote : Wrote) (laid : List ℕ) (lent into : RefT (List ℕ)) (r : FrameRead) (after : List ℕ) where
-  -- the frame that is asked for
-  abbrev pub asked : Sent
-  asked = sent (w .«correlation_id») t chained same (payload .now)
-
-  -- It is written, then read: `write_dss_full` lays it into a room that has place for it, from any fill mark on; then `next_frame` is
-  -- lent the room's bytes up to the fill mark behind it, and stands where it starts.
-  pub record Calls : Type 0 where
-    pub sendable : Sendable asked
-    pub fits : behind (w .fill) asked ≤ length (room .now)
-    pub writes : write-dss-full.Post κs (w, (t, (chained, (same, (payload, (room, tt)))))) wrote (w, (t, (chained, (same, (payload, (at-last room laid, tt))))))
-    pub lent-is : lent .now ≡ take (behind (w .fill) asked) laid
-    pub reads : next-frame.Post κs′ (standsAt (w .fill), (lent, (into, tt))) r (standsAt (w .fill), (lent, (at-last into after, tt)))
+  abbrev asked : Sent
+  asked = askedOf w t chained same payload
 
   -- "A written frame, read alone with enough room, gives back type, flags, correlation, payload and is wholly consumed."
-  pub read-back : Calls → (Unreadable asked → ⊥) → length (payload .now) ≤ length (into .now) → ReadAgain w asked wrote (into .now) r after
+  pub read-back : Calls κs κs′ w t chained same payload room wrote laid lent into r after → (Unreadable asked → ⊥) → length (payload .now) ≤ length (into .now) → ReadAgain w asked wrote (into .now) r after
   read-back c u k = read-again w asked (c .sendable) (room .now) laid (lent .now) (into .now) wrote r after (c .fits) (c .writes) (c .lent-is) (c .reads) u k
 
   -- "With a payload of 32,761 plus one or more times 32,765 bytes, the reader says it isn't whole."
-  pub not-whole : Calls → Unreadable asked → NotReadAgain w asked wrote (into .now) r after
+  pub not-whole : Calls κs κs′ w t chained same payload room wrote laid lent into r after → Unreadable asked → NotReadAgain w asked wrote (into .now) r after
   not-whole c u = not-read-again w asked (c .sendable) (room .now) laid (lent .now) (into .now) wrote r after (c .fits) (c .writes) (c .lent-is) (c .reads) u
 
 -- The same of the exported functions, lent eight words each. A writer is its correlation and its fill mark, a type a byte that says it,
 -- flags a byte.
 module _ (κs κs′ : Lfts 3) (id fill type flags : ℕ) (t : DssType) (payload room words : RefT (List ℕ)) (number : ℕ) (laid answer : List ℕ) (lent into words′ : RefT (List ℕ)) (number′ : ℕ) (after answer′ : List ℕ) where
-  abbrev pub of-type : DssType → Sent
-  of-type x = sent id x (bit 0x40 flags) (bit 0x10 flags) (payload .now)
+  abbrev of-type : DssType → Sent
+  of-type = askedInWords id flags payload
 
-  pub record ExportedCalls : Type 0 where
-    pub typed : typeAt type 0 ≡ Is t
-    pub sendable : Sendable (of-type t)
-    pub fits : behind fill (of-type t) ≤ length (room .now)
-    pub eight : 8 ≤ length (words .now)
-    pub eight′ : 8 ≤ length (words′ .now)
-    pub writes : lattrugone-write-dss-full.Post κs (id, (fill, (type, (flags, (payload, (room, (words, tt))))))) number (id, (fill, (type, (flags, (payload, (at-last room laid, (at-last words answer, tt)))))))
-    pub lent-is : lent .now ≡ take (behind fill (of-type t)) laid
-    pub reads : lattrugone-next-frame.Post κs′ (lent, (fill, (into, (words′, tt)))) number′ (lent, (fill, (at-last into after, (at-last words′ answer′, tt))))
-
-  pub exported-read-back : ExportedCalls → (Unreadable (of-type t) → ⊥) → length (payload .now) ≤ length (into .now)
+  pub exported-read-back : ExportedCalls κs κs′ id fill type flags t payload room words number laid answer lent into words′ number′ after answer′ → (Unreadable (of-type t) → ⊥) → length (payload .now) ≤ length (into .now)
       → ReadAgainInWords (of-type t) fill number answer (into .now) number′ answer′ after
   exported-read-back c u k =
       read-again-words (typeAt type 0) t (c .typed) id fill of-type refl (c .sendable)
       (room .now) (words .now) laid answer (lent .now) (into .now) (words′ .now) number number′ after answer′ (c .fits) (c .eight) (c .eight′) (c .writes) (c .lent-is) (c .reads) u k
 
-  pub exported-not-whole : ExportedCalls → Unreadable (of-type t) → NotReadAgainInWords (of-type t) fill number answer (into .now) number′ answer′ after
+  pub exported-not-whole : ExportedCalls κs κs′ id fill type flags t payload room words number laid answer lent into words′ number′ after answer′ → Unreadable (of-type t) → NotReadAgainInWords (of-type t) fill number answer (into .now) number′ answer′ after
   exported-not-whole c u =
       not-read-again-words (typeAt type 0) t (c .typed) id fill of-type refl (c .sendable)
       (room .now) (words .now) laid answer (lent .now) (into .now) (words′ .now) number number′ after answer′ (c .fits) (c .eight) (c .eight′) (c .writes) (c .lent-is) (c .reads) u
@@ -229,7 +210,7 @@ all-read-back 𝓤 H A mem routines κs run room row r room-after row-after fs a
 
 -- the exported function, with a row of ten words a record
 pub exported-all-read-back : (κs : Lfts 4) (run room row words : RefT (List ℕ)) (number : ℕ) (room-after row-after answer : List ℕ)
-    → (fs : List Sent) → AllAlone fs → run .now ≡ joined written fs → length (payloads fs) ≤ length (room .now) → length fs * recordLen ≤ length (row .now) → 8 ≤ length (words .now)
+    → (fs : List Sent) → AllAlone fs → run .now ≡ joined written fs → length (payloads fs) ≤ length (room .now) → length fs * recordLen ≤ length (row .now) → answerLen ≤ length (words .now)
     → lattrugone-read-all-frames.Post κs (run, (0, (room, (row, (words, tt))))) number (run, (0, (at-last room room-after, (at-last row row-after, (at-last words answer, tt)))))
     → AllBackInWords fs (room .now) (row .now) number room-after row-after answer
 exported-all-read-back κs run room row words number room-after row-after answer fs a e h k l p =
@@ -242,7 +223,7 @@ exported-all-read-back κs run room row words number room-after row-after answer
 pub layout-written : WritesLayout written
 layout-written = writes-layout
 
-pub layout-read : ReadsLayout (readAt Reader)
+pub layout-read : ReadsDssLayout (readAt Reader)
 layout-read = reads-layout
 
 -- under salvage's rules a full last chunk is no difference, and there is no other
@@ -272,13 +253,13 @@ module _ (κs : Lfts 2) (b room : RefT (List ℕ)) (r : FrameRead) (after : List
 
 -- The same of the exported functions, lent eight words.
 pub exported-laid-out : (κs : Lfts 3) (id fill type flags : ℕ) (t : DssType) (payload room words : RefT (List ℕ)) (laid answer : List ℕ)
-    → typeAt type 0 ≡ Is t → Allowed (structureOf (sent id t (bit 0x40 flags) (bit 0x10 flags) (payload .now))) → 8 ≤ length (words .now)
+    → typeAt type 0 ≡ Is t → Allowed (structureOf (sent id t (bit 0x40 flags) (bit 0x10 flags) (payload .now))) → answerLen ≤ length (words .now)
     → lattrugone-write-dss-full.Post κs (id, (fill, (type, (flags, (payload, (room, (words, tt))))))) 0 (id, (fill, (type, (flags, (payload, (at-last room laid, (at-last words answer, tt)))))))
     → LaidInWords (structureOf (sent id t (bit 0x40 flags) (bit 0x10 flags) (payload .now))) fill answer laid
 exported-laid-out κs id fill type flags t payload room words laid answer typed a k p =
     laid-in-words (typeAt type 0) t typed id fill (frameOf id (bit 0x40 flags) (bit 0x10 flags) (payload .now)) refl (room .now) (words .now) laid answer k p a
 
-module _ (κs : Lfts 3) (b room words : RefT (List ℕ)) (number : ℕ) (after answer : List ℕ) (w : Structure) (l : Dss w (b .now)) (eight : 8 ≤ length (words .now)) (p : lattrugone-next-frame.Post κs (b, (0, (room, (words, tt)))) number (b, (0, (at-last room after, (at-last words answer, tt))))) where
+module _ (κs : Lfts 3) (b room words : RefT (List ℕ)) (number : ℕ) (after answer : List ℕ) (w : Structure) (l : Dss w (b .now)) (eight : answerLen ≤ length (words .now)) (p : lattrugone-next-frame.Post κs (b, (0, (room, (words, tt)))) number (b, (0, (at-last room after, (at-last words answer, tt))))) where
   pub exported-laid-read : (FullLast l → ⊥) → length (w .payload) ≤ length (room .now) → StructureBackInWords w (b .now) (room .now) number answer after
   exported-laid-read n h = structure-back w (b .now) l (room .now) (words .now) eight number after answer p n h
 
@@ -348,13 +329,13 @@ taken-again κs κs′ κs″ reader next s longer room again more d r after aft
 
 -- and of the exported functions, lent eight words: `has_frame` is asked at the position that the first answer says
 pub exported-taken-again : (κs κs′ : Lfts 3) (κs″ : Lfts 1) (at : ℕ) (s longer room again words words′ : RefT (List ℕ)) (more after answer : List ℕ) (number : ℕ) (after′ answer′ : List ℕ)
-    → longer .now ≡ s .now ++ more → again .now ≡ room .now → 8 ≤ length (words .now) → 8 ≤ length (words′ .now)
+    → longer .now ≡ s .now ++ more → again .now ≡ room .now → answerLen ≤ length (words .now) → answerLen ≤ length (words′ .now)
     → lattrugone-next-frame.Post κs (s, (at, (room, (words, tt)))) 0 (s, (at, (at-last room after, (at-last words answer, tt))))
-    → lattrugone-has-frame.Post κs″ (s, (getD (take 8 answer) 1 0, tt)) 1 (s, (getD (take 8 answer) 1 0, tt))
+    → lattrugone-has-frame.Post κs″ (s, (getD (take answerLen answer) 1 0, tt)) 1 (s, (getD (take answerLen answer) 1 0, tt))
     → lattrugone-next-frame.Post κs′ (longer, (at, (again, (words′, tt)))) number (longer, (at, (at-last again after′, (at-last words′ answer′, tt))))
-    → (number ≡ 0) × (take 8 answer′ ≡ take 8 answer) × (after′ ≡ after)
+    → (number ≡ 0) × (take answerLen answer′ ≡ take 8 answer) × (after′ ≡ after)
 exported-taken-again κs κs′ κs″ at s longer room again words words′ more after answer number after′ answer′ e k h h′ a c b =
-    words-same (λ l p. isEnd (frameEnd l p)) reader-taken-stay (s .now) more at (room .now) (words .now) (words′ .now) h h′ after answer number after′ answer′ a (has-whole (s .now) (getD (take 8 answer) 1 0) c)
+    words-same (λ l p. isEnd (frameEnd l p)) reader-taken-stay (s .now) more at (room .now) (words .now) (words′ .now) h h′ after answer number after′ answer′ a (has-whole (s .now) (getD (take answerLen answer) 1 0) c)
     (subst (λ (l : List ℕ). ReadsFrame l at (room .now) (words′ .now) number after′ answer′) e
     (subst (λ (l : List ℕ). ReadsFrame (longer .now) at l (words′ .now) number after′ answer′) k b))
 
@@ -364,15 +345,15 @@ decided-stay = reader-decided-stay
 
 -- so of the exported functions, where `frame_end` is asked at that position, whatever words it is lent
 pub exported-taken-by-end : (κs κs′ : Lfts 3) (κs″ : Lfts 2) (at : ℕ) (s longer room again words words′ end-words : RefT (List ℕ)) (more after answer end-answer : List ℕ) (end number : ℕ) (after′ answer′ : List ℕ)
-    → longer .now ≡ s .now ++ more → again .now ≡ room .now → 8 ≤ length (words .now) → 8 ≤ length (words′ .now)
+    → longer .now ≡ s .now ++ more → again .now ≡ room .now → answerLen ≤ length (words .now) → answerLen ≤ length (words′ .now)
     → lattrugone-next-frame.Post κs (s, (at, (room, (words, tt)))) 0 (s, (at, (at-last room after, (at-last words answer, tt))))
-    → lattrugone-frame-end.Post κs″ (s, (getD (take 8 answer) 1 0, (end-words, tt))) end (s, (getD (take 8 answer) 1 0, (at-last end-words end-answer, tt)))
+    → lattrugone-frame-end.Post κs″ (s, (getD (take answerLen answer) 1 0, (end-words, tt))) end (s, (getD (take answerLen answer) 1 0, (at-last end-words end-answer, tt)))
     → (end ≡ 0) ⊎ (end ≡ 16)
     → lattrugone-next-frame.Post κs′ (longer, (at, (again, (words′, tt)))) number (longer, (at, (at-last again after′, (at-last words′ answer′, tt))))
-    → (number ≡ 0) × (take 8 answer′ ≡ take 8 answer) × (after′ ≡ after)
+    → (number ≡ 0) × (take answerLen answer′ ≡ take 8 answer) × (after′ ≡ after)
 exported-taken-by-end κs κs′ κs″ at s longer room again words words′ end-words more after answer end-answer end number after′ answer′ e k h h′ a c d b =
     words-same (λ l p. decided (frameEnd l p)) reader-decided-stay (s .now) more at (room .now) (words .now) (words′ .now) h h′ after answer number after′ answer′ a
-    (end-decided (s .now) (getD (take 8 answer) 1 0) (end-words .now) end end-answer c d)
+    (end-decided (s .now) (getD (take answerLen answer) 1 0) (end-words .now) end end-answer c d)
     (subst (λ (l : List ℕ). ReadsFrame l at (room .now) (words′ .now) number after′ answer′) e
     (subst (λ (l : List ℕ). ReadsFrame (longer .now) at l (words′ .now) number after′ answer′) k b))
 
@@ -392,10 +373,10 @@ dead-again κs κs′ reader left s longer room again more why r after after′ 
 
 -- and of the exported function, lent eight words
 pub exported-dead-again : (κs κs′ : Lfts 3) (at : ℕ) (s longer room again words words′ : RefT (List ℕ)) (more after answer : List ℕ) (number : ℕ) (after′ answer′ : List ℕ)
-    → longer .now ≡ s .now ++ more → 8 ≤ length (words .now) → 8 ≤ length (words′ .now)
+    → longer .now ≡ s .now ++ more → answerLen ≤ length (words .now) → answerLen ≤ length (words′ .now)
     → lattrugone-next-frame.Post κs (s, (at, (room, (words, tt)))) 16 (s, (at, (at-last room after, (at-last words answer, tt))))
     → lattrugone-next-frame.Post κs′ (longer, (at, (again, (words′, tt)))) number (longer, (at, (at-last again after′, (at-last words′ answer′, tt))))
-    → (number ≡ 16) × (take 8 answer′ ≡ take 8 answer) × (after′ ≡ again .now)
+    → (number ≡ 16) × (take answerLen answer′ ≡ take 8 answer) × (after′ ≡ again .now)
 exported-dead-again κs κs′ at s longer room again words words′ more after answer number after′ answer′ e h h′ a b =
     words-dead (s .now) more at (room .now) (again .now) (words .now) (words′ .now) h h′ after answer number after′ answer′ a
     (subst (λ (l : List ℕ). ReadsFrame l at (again .now) (words′ .now) number after′ answer′) e b)
@@ -418,7 +399,7 @@ salvaged-back 𝓤 H A mem routines κs s room row r room-after row-after items 
     salvage-recovers 𝓤 H A mem routines κs s room row room-after row-after items e h k r
 
 pub exported-salvaged-back : (κs : Lfts 4) (s room row words : RefT (List ℕ)) (number : ℕ) (room-after row-after answer : List ℕ)
-    → (items : List (Item written)) → s .now ≡ run items → length (allBytes items) ≤ length (room .now) → length items * recordLen ≤ length (row .now) → 8 ≤ length (words .now)
+    → (items : List (Item written)) → s .now ≡ run items → length (allBytes items) ≤ length (room .now) → length items * recordLen ≤ length (row .now) → answerLen ≤ length (words .now)
     → lattrugone-salvage.Post κs (s, (room, (row, (words, tt)))) number (s, (at-last room room-after, (at-last row row-after, (at-last words answer, tt))))
     → RecoveredInWords items (room .now) (row .now) number room-after row-after answer
 exported-salvaged-back κs s room row words number room-after row-after answer items e h k l p =
@@ -439,7 +420,7 @@ salvaged-as-read = salvages-as-read
 -- other, and so is the room
 pub exported-salvaged-as-read : (κs κs′ : Lfts 4) (s room row words room′ row′ words′ : RefT (List ℕ)) (number number′ : ℕ) (room-after row-after answer room-after′ row-after′ answer′ : List ℕ)
     → (fs : List Frame) (q : ℕ) → allFrames (s .now) 0 ≡ frames fs q → NoneFull (s .now) 0 fs
-    → room′ .now ≡ room .now → row′ .now ≡ row .now → 8 ≤ length (words .now) → 8 ≤ length (words′ .now)
+    → room′ .now ≡ room .now → row′ .now ≡ row .now → answerLen ≤ length (words .now) → answerLen ≤ length (words′ .now)
     → lattrugone-read-all-frames.Post κs (s, (0, (room, (row, (words, tt))))) number (s, (0, (at-last room room-after, (at-last row row-after, (at-last words answer, tt)))))
     → lattrugone-salvage.Post κs′ (s, (room′, (row′, (words′, tt)))) number′ (s, (at-last room′ room-after′, (at-last row′ row-after′, (at-last words′ answer′, tt))))
     → SameInWords (length fs) (length (payloadsOf (s .now) fs)) q number answer room-after row-after number′ answer′ room-after′ row-after′

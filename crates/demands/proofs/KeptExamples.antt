@@ -7,8 +7,8 @@ use mathlib.Core.List.{List, [], _∷_, _++_}
 use lib.ListN.{length, take, replicate, length-replicate}
 use contract.Lifetimes.{Lfts}
 use denote.Ref.{RefT}
-use Rattle.wire.specs.Bytes.{part, splice, laid}
-use Rattle.wire.specs.Octets.{octets-tested}
+use Rattle.wire.specs.Bytes.{part, splice, laid, joined}
+use Rattle.wire.proofs.OctetLaws.{octets-tested}
 use Rattle.answer.specs.Rooms.{noRoom}
 use Rattle.answer.specs.declared.Refusal.the-variants.{InvalidMagic}
 use Rattle.dss_head.specs.Heads.{typeByte}
@@ -16,25 +16,24 @@ use Rattle.dss_head.specs.declared.DssType.{DssType}
 use Rattle.dss_head.specs.declared.DssType.the-variants.{Request, Reply, NoReply}
 use Rattle.dss_frame.specs.Segments.{payloadOf, endOf, frameWalk, continuations, walkFuel}
 use Rattle.dss_frame.specs.Reading.{Read, refused, readAt, absorb, absorbFuel, look}
-use Rattle.dss_frame.specs.Records.{payloadsOf, recordsOf}
+use Rattle.dss_frame.specs.FrameRecords.{payloadsOf, frameRecords}
 use Rattle.dss_frame.specs.Frames.{framesFuel, allFrames}
 use Rattle.dss_frame.specs.Salvage.{salvaged, salvageFuel}
 use Rattle.dss_frame.specs.Written.{Sent, written, chunks, chunksFuel}
 use Rattle.dss_frame.specs.declared.DssFrame.{DssFrame}
 use Rattle.dss_frame.specs.declared.Rules.the-variants.{Reader}
 use Rattle.dss_take.specs.Take.{roomRead}
-use Rattle.dss_writer.specs.Writer.{fresh, sent, wrote}
+use Rattle.dss_writer.specs.Writer.{freshWriter, sent, wrote}
 use Rattle.dss_writer.specs.declared.DssWriter.{DssWriter}
 use Rattle.dss_writer.specs.declared.Wrote.{Wrote}
 use Rattle.dss_writer.specs.declared.Wrote.the-variants.{Done}
-use Rattle.dss_reader.specs.Reader.{standsAt, given, frameEnd, ReadAllFrames}
+use Rattle.dss_reader.specs.Reader.{standsAt, givenFrame, frameEnd, ReadAllFrames}
 use Rattle.dss_reader.specs.declared.FrameRead.{FrameRead}
 use Rattle.dss_reader.specs.declared.FrameRead.the-variants.{Frame as Hands, Refused as NotRead}
 use Rattle.dss_reader.specs.declared.FramesRead.{FramesRead}
 use Rattle.dss_reader.specs.declared.FramesRead.the-variants.{Frames}
-use Rattle.dss_salvage.specs.SalvageCall.{salvagedBytes, salvagedRow}
-use Rattle.gateway_words.specs.Words.{Answered}
-use Rattle.gateway_row.specs.RowWords as row-words
+use Rattle.dss_salvage.specs.SalvageEntries.{salvagedBytes, salvagedRow}
+use Rattle.gateway_words.specs.AnswerWords.{Answered}
 use Rattle.gateway_writer.specs.WriterWords.{wroteWords}
 use Rattle.gateway_reader.specs.ReaderWords.{frameWords}
 use Rattle.gateway_frames.proofs.lattrugone_read_all_frames.Reads as lattrugone-read-all-frames
@@ -42,18 +41,19 @@ use Rattle.gateway_salvage.specs.SalvageWords.{SalvagesInWords}
 use Rattle.gateway_salvage.proofs.lattrugone_salvage.Reads as lattrugone-salvage
 use Rattle.layouts.specs.DssLayout.{Dss, FullLast}
 use Rattle.demands.specs.Demands.{Sendable, Unreadable, run}
-use Rattle.demands.specs.AllFrames.{joined}
-use Rattle.demands.specs.Layouts.{structureOf}
-use Rattle.demands.specs.Table.{p2, p8}
-use Rattle.demands.proofs.ReaderKeeps.{payloads, frames-back}
+use Rattle.demands.specs.DssLayouts.{structureOf}
+use Rattle.demands.proofs.Table.{p2, p8}
+use Rattle.demands.specs.KeptLists.{payloads}
+use Rattle.demands.specs.KeptMeaning.{notYet, ReadAgain, NotReadAgain, ReadAgainInWords, NotReadAgainInWords, AllBackInWords, RecoveredInWords, RefusedInWords, StructureBack, StructureBackInWords, LaidInWords, RefusedAs}
+use Rattle.demands.proofs.ReaderKeeps.{frames-back}
 use Rattle.demands.proofs.AllFramesExample.{reply, object, pair, pair-alone}
 use Rattle.demands.proofs.ReadBack as ReadBack
 use Rattle.demands.proofs.SeveralRun.{alike}
 use Rattle.demands.proofs.ExampleRun.{three, three-run, three-sizes}
 use Rattle.demands.proofs.WrittenLayout.{allowed-sent}
 use Rattle.demands.proofs.LayoutExamples as layouts
-use Rattle.demands.proofs.KeptMeaning.{notYet, ReadAgain, NotReadAgain, ReadAgainInWords, NotReadAgainInWords, AllBackInWords, RecoveredInWords, RefusedInWords, StructureBack, StructureBackInWords, LaidInWords, RefusedAs}
-use Rattle.demands.proofs.Kept.{write-refused, read-refused, Calls, read-back, not-whole, ExportedCalls, exported-read-back, exported-not-whole, exported-all-read-back, exported-salvaged-back, exported-write-refused, exported-read-refused, exported-all-read-refused, exported-salvage-refused, laid-out, laid-read, laid-not-whole, exported-laid-out, exported-laid-read, exported-laid-not-whole, taken-again, exported-taken-again}
+use Rattle.demands.specs.KeptCalls.{Calls, ExportedCalls}
+use Rattle.demands.proofs.Kept.{write-refused, read-refused, read-back, not-whole, exported-read-back, exported-not-whole, exported-all-read-back, exported-salvaged-back, exported-write-refused, exported-read-refused, exported-all-read-refused, exported-salvage-refused, laid-out, laid-read, laid-not-whole, exported-laid-out, exported-laid-read, exported-laid-not-whole, taken-again, exported-taken-again}
 
 -- bytes or words that are lent
 abbrev pub lending : List ℕ → RefT (List ℕ)
@@ -161,12 +161,12 @@ full-lent = refl
 full-read : readAt Reader (written full) 0 ≡ refused (notYet 0)
 full-read = ReadBack.not-whole full full-sendable full-unreadable
 
-full-wrote : wrote (fresh 7) (length zeros) (length (written full)) ≡ Done (record { «correlation_id» = 7; fill = 65534 })
+full-wrote : wrote (freshWriter 7) (length zeros) (length (written full)) ≡ Done (record { «correlation_id» = 7; fill = 65534 })
 unfolding written chunks chunksFuel
 full-wrote = refl
 
 full-calls : (κs κs′ : Lfts 2)
-    → Calls κs κs′ (fresh 7) Request false false (lending big) (lending zeros) (Done (record { «correlation_id» = 7; fill = 65534 })) (written full)
+    → Calls κs κs′ (freshWriter 7) Request false false (lending big) (lending zeros) (Done (record { «correlation_id» = 7; fill = 65534 })) (written full)
     (lending (written full)) (lending []) (NotRead (notYet 0) (standsAt 0)) []
 full-calls κs κs′ =
     record {
@@ -174,12 +174,12 @@ full-calls κs κs′ =
       fits = omega (arith, full-size, length-replicate {A = ℕ} 65534 0);
       writes = record { answers = sym full-wrote; room-is = sym full-laid };
       lent-is = full-lent;
-      reads = record { answers = sym (ap (given (written full) 0 0) full-read); room-is = sym (ap (roomRead (written full) []) full-read) };
+      reads = record { answers = sym (ap (givenFrame (written full) 0 0) full-read); room-is = sym (ap (roomRead (written full) []) full-read) };
     }
 
-pub full-not-whole : (κs κs′ : Lfts 2) → NotReadAgain (fresh 7) full (Done (record { «correlation_id» = 7; fill = 65534 })) [] (NotRead (notYet 0) (standsAt 0)) []
+pub full-not-whole : (κs κs′ : Lfts 2) → NotReadAgain (freshWriter 7) full (Done (record { «correlation_id» = 7; fill = 65534 })) [] (NotRead (notYet 0) (standsAt 0)) []
 full-not-whole κs κs′ =
-    not-whole κs κs′ (fresh 7) Request false false (lending big) (lending zeros) (Done (record { «correlation_id» = 7; fill = 65534 })) (written full)
+    not-whole κs κs′ (freshWriter 7) Request false false (lending big) (lending zeros) (Done (record { «correlation_id» = 7; fill = 65534 })) (written full)
     (lending (written full)) (lending []) (NotRead (notYet 0) (standsAt 0)) [] (full-calls κs κs′) full-unreadable
 
 -- the exported functions: the writer answers 0, and the reader 1
@@ -203,7 +203,7 @@ full-exported κs κs′ =
       lent-is = full-lent;
       reads = record {
         answers =
-            subst (λ (x : Read). Answered (frameWords (given (written full) 0 0 x)) (replicate 8 9) 1 (1 ∷ replicate 7 0)) (sym full-read)
+            subst (λ (x : Read). Answered (frameWords (givenFrame (written full) 0 0 x)) (replicate 8 9) 1 (1 ∷ replicate 7 0)) (sym full-read)
             (record { number-is = refl; words-are = refl });
         room-is = sym (ap (roomRead (written full) []) full-read);
       };
@@ -227,7 +227,7 @@ pair-words = 0 ∷ 18 ∷ 2 ∷ 6 ∷ 0 ∷ 0 ∷ 0 ∷ 0 ∷ []
 
 pair-calls : (κs : Lfts 4) → lattrugone-read-all-frames.Post κs (lending (joined written (pair false)), (0, (lending (replicate 7 9), (lending (replicate 21 9), (lending (replicate 8 9), tt)))))
     0 (lending (joined written (pair false)), (0, (lending pair-room, (lending pair-row, (lending pair-words, tt)))))
-unfolding pair reply object joined written chunks chunksFuel splice laid allFrames framesFuel readAt absorb absorbFuel look payloadOf endOf frameWalk continuations walkFuel payloadsOf recordsOf row-words.joined
+unfolding pair reply object joined written chunks chunksFuel splice laid allFrames framesFuel readAt absorb absorbFuel look payloadOf endOf frameWalk continuations walkFuel payloadsOf frameRecords
 pair-calls κs = record { answers = record { number-is = refl; words-are = refl }; room-is = refl; row-is = refl }
 
 pair-sizes : (length (payloads (pair false)) ≡ 6) × (length (pair false) ≡ 2)
@@ -250,7 +250,7 @@ three-words = 0 ∷ 0 ∷ 3 ∷ 6 ∷ 25 ∷ 0 ∷ 0 ∷ 0 ∷ []
 
 three-calls : (κs : Lfts 4) → lattrugone-salvage.Post κs (lending (run three), (lending (replicate 7 9), (lending (replicate 31 9), (lending (replicate 8 9), tt))))
     0 (lending (run three), (lending pair-room, (lending three-row, (lending three-words, tt))))
-unfolding splice laid salvaged salvageFuel readAt absorb absorbFuel look payloadOf endOf frameWalk continuations walkFuel salvagedBytes salvagedRow row-words.joined
+unfolding splice laid salvaged salvageFuel readAt absorb absorbFuel look payloadOf endOf frameWalk continuations walkFuel salvagedBytes salvagedRow joined
 three-calls κs =
     subst (λ (s : List ℕ). SalvagesInWords s (replicate 7 9) (replicate 31 9) (replicate 8 9) 0 pair-room three-row three-words) (sym three-run)
     (record { answers = record { number-is = refl; words-are = refl }; room-is = refl; row-is = refl })
@@ -307,7 +307,7 @@ asked-in-words κs =
 abbrev two-full : List ℕ
 two-full = layouts.twoChunks (layouts.filling 32761) (layouts.filling 32765)
 
-two-full-cut : layouts.Cut (layouts.filling 32761) (layouts.filling 32765)
+two-full-cut : layouts.CutShort (layouts.filling 32761) (layouts.filling 32765)
 two-full-cut = layouts.filled 32765 (omega arith)
 
 two-full-last : FullLast (two-full-cut .laid)
@@ -316,7 +316,7 @@ two-full-last = two-full-cut .full (omega (arith, layouts.filling-length 32765))
 pub two-full-not-whole : (κs : Lfts 2) → (_≡_ {A = FrameRead} (NotRead (notYet 0) (standsAt 0)) (NotRead (notYet 0) (standsAt 0))) × (_≡_ {A = List ℕ} [] [])
 two-full-not-whole κs =
     laid-not-whole κs (lending two-full) (lending []) (NotRead (notYet 0) (standsAt 0)) [] _ (two-full-cut .laid)
-    (record { answers = sym (ap (given two-full 0 0) layouts.full-waits); room-is = sym (ap (roomRead two-full []) layouts.full-waits) }) two-full-last
+    (record { answers = sym (ap (givenFrame two-full 0 0) layouts.full-waits); room-is = sym (ap (roomRead two-full []) layouts.full-waits) }) two-full-last
 
 pub two-full-in-words : (κs : Lfts 3) → RefusedAs (notYet 0) [] 1 (1 ∷ replicate 7 0) []
 unfolding splice laid
@@ -324,7 +324,7 @@ two-full-in-words κs =
     exported-laid-not-whole κs (lending two-full) (lending []) (lending (replicate 8 9)) 1 [] (1 ∷ replicate 7 0) _ (two-full-cut .laid) (omega arith)
     (record {
       answers =
-          subst (λ (x : Read). Answered (frameWords (given two-full 0 0 x)) (replicate 8 9) 1 (1 ∷ replicate 7 0)) (sym layouts.full-waits)
+          subst (λ (x : Read). Answered (frameWords (givenFrame two-full 0 0 x)) (replicate 8 9) 1 (1 ∷ replicate 7 0)) (sym layouts.full-waits)
           (record { number-is = refl; words-are = refl });
       room-is = sym (ap (roomRead two-full []) layouts.full-waits);
     })
@@ -355,8 +355,8 @@ no-reply-in-words κs =
 
 -- ---- a frame that may be taken: the first of two, and more bytes behind them
 
-abbrev pub taken : DssFrame
-taken = record {
+abbrev pub takenExample : DssFrame
+takenExample = record {
   header = record { length = 6; «dss_type» = Reply; flags = record { chained = false; «continue_on_error» = false; «same_correlation» = false }; «correlation_id» = 7 };
   «payload_at» = 0;
   «payload_len» = 0;
@@ -365,10 +365,10 @@ taken = record {
   end = 6;
 }
 
-pub taken-twice : (κs κs′ : Lfts 2) (κs″ : Lfts 1) → (_≡_ {A = FrameRead} (Hands taken (standsAt 6)) (Hands taken (standsAt 6))) × (_≡_ {A = List ℕ} (9 ∷ []) (9 ∷ []))
+pub taken-twice : (κs κs′ : Lfts 2) (κs″ : Lfts 1) → (_≡_ {A = FrameRead} (Hands takenExample (standsAt 6)) (Hands takenExample (standsAt 6))) × (_≡_ {A = List ℕ} (9 ∷ []) (9 ∷ []))
 unfolding frameEnd splice laid readAt absorb absorbFuel look payloadOf endOf frameWalk continuations walkFuel
 taken-twice κs κs′ κs″ =
-    taken-again κs κs′ κs″ (standsAt 0) (standsAt 6) (lending (p2 ++ p2)) (lending (p2 ++ p2 ++ p8)) (lending (9 ∷ [])) (lending (9 ∷ [])) p8 taken (Hands taken (standsAt 6)) (9 ∷ []) (9 ∷ [])
+    taken-again κs κs′ κs″ (standsAt 0) (standsAt 6) (lending (p2 ++ p2)) (lending (p2 ++ p2 ++ p8)) (lending (9 ∷ [])) (lending (9 ∷ [])) p8 takenExample (Hands takenExample (standsAt 6)) (9 ∷ []) (9 ∷ [])
     refl refl (record { answers = refl; room-is = refl }) refl (record { answers = refl; room-is = refl })
 
 -- its words say the position 6, where `has_frame` then answers 1
@@ -397,7 +397,7 @@ small-refused κs =
 pub small-not-written : (κs : Lfts 2) → _≡_ {A = List ℕ} (replicate 6 9) (replicate 6 9)
 unfolding written chunks chunksFuel splice laid
 small-not-written κs =
-    write-refused κs (lending (replicate 6 9)) (noRoom 0 7 0) (replicate 6 9) (fresh 7) Request true true (lending (0xAA ∷ [])) (record { answers = refl; room-is = refl })
+    write-refused κs (lending (replicate 6 9)) (noRoom 0 7 0) (replicate 6 9) (freshWriter 7) Request true true (lending (0xAA ∷ [])) (record { answers = refl; room-is = refl })
 
 -- P8: the first frame is lost to the head behind it, 2 at 6
 pub lost-refused : (κs : Lfts 3) → RefusedInWords (replicate 8 9) 2 (2 ∷ 6 ∷ replicate 6 0) × (_≡_ {A = List ℕ} (replicate 3 9) (replicate 3 9))
@@ -419,7 +419,7 @@ all-lost-refused κs =
 
 -- salvage has two entries for it, and a row of nineteen words has place for one: 9, and two records are needed
 pub short-refused : (κs : Lfts 4) → RefusedInWords (replicate 8 9) 9 (9 ∷ 0 ∷ 0 ∷ 2 ∷ replicate 4 0) × (_≡_ {A = List ℕ} (replicate 3 9) (replicate 3 9)) × (_≡_ {A = List ℕ} (replicate 19 9) (replicate 19 9))
-unfolding splice laid salvaged salvageFuel readAt absorb absorbFuel look payloadOf endOf frameWalk continuations walkFuel salvagedBytes salvagedRow row-words.joined
+unfolding splice laid salvaged salvageFuel readAt absorb absorbFuel look payloadOf endOf frameWalk continuations walkFuel salvagedBytes salvagedRow joined
 short-refused κs =
     exported-salvage-refused nines 9 (9 ∷ 0 ∷ 0 ∷ 2 ∷ replicate 4 0) (λ e. omega arith) (lending (replicate 3 9)) (replicate 3 9) κs (lending p8) (lending (replicate 19 9)) (replicate 19 9)
     (record { answers = record { number-is = refl; words-are = refl }; room-is = refl; row-is = refl })

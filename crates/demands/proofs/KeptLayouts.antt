@@ -14,26 +14,26 @@ use Rattle.dss_head.specs.declared.TypeFound.{TypeFound}
 use Rattle.dss_head.specs.declared.TypeFound.the-variants.{Is}
 use Rattle.dss_frame.specs.declared.Rules.the-variants.{Reader}
 use Rattle.dss_frame.specs.Reading.{Frame, readAt}
-use Rattle.dss_frame.specs.Records.{recordOf}
+use Rattle.dss_frame.specs.FrameRecords.{frameRecord}
 use Rattle.dss_frame.specs.Written.{Sent, written}
 use Rattle.dss_writer.specs.Writer.{wroteBy, wrote}
 use Rattle.dss_writer.specs.declared.DssWriter.{DssWriter}
 use Rattle.dss_writer.specs.declared.Wrote.{Wrote}
 use Rattle.dss_writer.specs.declared.Wrote.the-variants.{Done, Refused as NotWritten}
-use Rattle.dss_reader.specs.Reader.{standsAt, given, NextFrame}
+use Rattle.dss_reader.specs.Reader.{standsAt, givenFrame, NextFrame}
 use Rattle.dss_reader.specs.declared.FrameRead.{FrameRead}
 use Rattle.dss_reader.specs.declared.FrameRead.the-variants.{Frame as Hands, Refused as NotRead}
-use Rattle.gateway_words.specs.Words.{doneWords, Answered}
+use Rattle.gateway_words.specs.AnswerWords.{doneWords, Answered}
 use Rattle.gateway_row.specs.RowWords.{formatByte, frameAt}
-use Rattle.gateway_row.specs.RecordBack.{format-says, numbered}
+use Rattle.gateway_row.proofs.RecordBack.{format-says, numbered}
 use Rattle.gateway_writer.specs.WriterWords.{writerOf, wroteWords, wroteTyped, roomTyped, Sends}
 use Rattle.gateway_reader.specs.ReaderWords.{frameWords, ReadsFrame}
 use Rattle.layouts.specs.DssLayout.{Structure, Allowed, Dss, FullLast, format}
-use Rattle.demands.specs.Layouts.{structureOf, Says}
+use Rattle.demands.specs.DssLayouts.{structureOf, SaysStructure}
 use Rattle.demands.proofs.FaithfulLayout.{format-told, allowed-in}
 use Rattle.demands.proofs.WrittenLayout.{flagsIn}
 use Rattle.demands.proofs.LayoutCalls.{done-refused, same-done, between-laid, layout-back, layout-not-whole}
-use Rattle.demands.proofs.KeptMeaning.{StructureInWords, StructureBackInWords, LaidInWords, notYet, RefusedAs}
+use Rattle.demands.specs.KeptMeaning.{StructureInWords, StructureBackInWords, LaidInWords, notYet, RefusedAs}
 use Rattle.demands.proofs.KeptFrame.{answer-says}
 
 -- ---- what was laid down
@@ -75,7 +75,7 @@ module _ (found : TypeFound) (t : DssType) (ft : found ≡ Is t) (correlation fi
 -- ---- what is read
 
 -- a frame's words say the structure that it does
-structure-words : (w : Structure) (b : List ℕ) (g : Frame) (position : ℕ) → w .type ≤ 5 → Says w b g → StructureInWords w position (frameAt position 0 (recordOf b 0 0 g))
+structure-words : (w : Structure) (b : List ℕ) (g : Frame) (position : ℕ) → w .type ≤ 5 → SaysStructure w b g → StructureInWords w position (frameAt position 0 (frameRecord b 0 0 g))
 structure-words w b g position h s =
     let flags : g .head .flags ≡ flagsIn w = λ i. record { chained = s .chained i; «continue_on_error» = s .on-error i; «same_correlation» = s .same i } in
     let byte : formatByte (g .head) ≡ w .type + flagsByte (flagsIn w) = λ i. s .type i + flagsByte (flags i) in
@@ -92,7 +92,7 @@ structure-words w b g position h s =
 module _ (w : Structure) (b : List ℕ) (l : Dss w b) (room words : List ℕ) (k : 8 ≤ length words) (number : ℕ) (after answer : List ℕ) (p : ReadsFrame b 0 room words number after answer) where
   -- what the call in Rattle answers
   abbrev r : FrameRead
-  r = given b 0 (length room) (readAt Reader b 0)
+  r = givenFrame b 0 (length room) (readAt Reader b 0)
 
   as-call : NextFrame b 0 room r after
   as-call = record { answers = refl; room-is = p .room-is }
@@ -103,7 +103,7 @@ module _ (w : Structure) (b : List ℕ) (l : Dss w b) (room words : List ℕ) (k
   pub structure-back : (FullLast l → ⊥) → length (w .payload) ≤ length room → StructureBackInWords w b room number answer after
   structure-back n h =
       let x = layout-back w b l room r after as-call n h in
-      let a = answers (Hands (recordOf b 0 0 (x .read)) (standsAt (length b))) (x .is) in
+      let a = answers (Hands (frameRecord b 0 0 (x .read)) (standsAt (length b))) (x .is) in
       record {
         number-is = a .number-is;
         says = subst (StructureInWords w (length b)) (sym (answer-says refl k a)) (structure-words w b (x .read) (length b) (allowed-in l .type .1) (x .says));

@@ -8,9 +8,10 @@ use mathlib.Core.List.{List}
 use lib.Dec.{leb, eqb}
 use lib.ListN.{length}
 use borrow.Author.Tests.{leb-true, leb-false}
+use Rattle.dss_salvage_call.specs.SalvageCall.{givenEntries, entriesFit}
 use Rattle.wire.specs.Bytes.{or}
-use Rattle.wire.specs.Laws.{by, pick-yes, pick-no, true-false}
-use Rattle.wire.specs.Splice.{laid-kept}
+use Rattle.wire.proofs.WireLaws.{by, pick-yes, pick-no, true-false}
+use Rattle.wire.proofs.Splicing.{laid-kept}
 use Rattle.answer.specs.Numbers.{numberOf, notWhole}
 use Rattle.answer.specs.Rooms.{noRoom, roomFor}
 use Rattle.answer.specs.declared.Refusal.{Refusal}
@@ -21,7 +22,7 @@ use Rattle.dss_head.specs.declared.TypeFound.{TypeFound}
 use Rattle.dss_head.specs.declared.TypeFound.the-variants.{Is, Refused as NoType}
 use Rattle.dss_frame.specs.Reading.{Frame, readAt}
 use Rattle.dss_frame.specs.Frames.{AllRead, frames, refusedAll, allFrames}
-use Rattle.dss_frame.specs.Records.{payloadsOf}
+use Rattle.dss_frame.specs.FrameRecords.{payloadsOf}
 use Rattle.dss_frame.specs.Salvage.{salvaged}
 use Rattle.dss_frame.specs.Written.{Sent, written}
 use Rattle.dss_frame.specs.declared.DssFrame.{DssFrame}
@@ -34,25 +35,24 @@ use Rattle.dss_writer.specs.Writer.{wroteBy, Writes}
 use Rattle.dss_writer.specs.declared.DssWriter.{DssWriter}
 use Rattle.dss_writer.specs.declared.Wrote.{Wrote}
 use Rattle.dss_writer.specs.declared.Wrote.the-variants.{Done, Refused as NotWritten}
-use Rattle.dss_reader.specs.Reader.{standsAt, leftAt, given, NextFrame, framesFit, givenAll, roomAll, rowAll, ReadAllFrames}
+use Rattle.dss_reader.specs.Reader.{standsAt, leftAt, givenFrame, NextFrame, framesFit, givenFrames, roomAll, rowAll, ReadAllFrames}
 use Rattle.dss_reader.specs.declared.DssReader.{DssReader}
 use Rattle.dss_reader.specs.declared.FrameRead.{FrameRead}
 use Rattle.dss_reader.specs.declared.FrameRead.the-variants.{Frame as Hands, Refused as NotRead}
 use Rattle.dss_reader.specs.declared.FramesRead.{FramesRead}
 use Rattle.dss_reader.specs.declared.FramesRead.the-variants.{Frames, Refused as NoneRead}
-use Rattle.dss_salvage.specs.SalvageCall as call
 use Rattle.dss_salvage.specs.declared.Salvaged.{Salvaged}
 use Rattle.dss_salvage.specs.declared.Salvaged.the-variants.{Done as Gathered, Refused as NotSalvaged}
-use Rattle.gateway_words.specs.Words.{refusalWords, Answered}
+use Rattle.gateway_words.specs.AnswerWords.{refusalWords, Answered}
 use Rattle.gateway_row.specs.RowWords.{places}
 use Rattle.gateway_writer.specs.WriterWords.{wroteWords, wroteTyped, roomTyped, Sends}
 use Rattle.gateway_reader.specs.ReaderWords.{frameWords, ReadsFrame}
 use Rattle.gateway_measure.specs.MeasureWords.{measuredWords}
 use Rattle.gateway_take.specs.TakeWords.{TakesFrame}
-use Rattle.gateway_frames.specs.FramesWords.{framesWords, rowWords, ReadsAllFrames}
+use Rattle.gateway_frames.specs.FramesWords.{framesWords, framesRow, ReadsAllFrames}
 use Rattle.gateway_salvage.specs.SalvageWords.{salvagedWords, SalvagesInWords}
 use Rattle.demands.proofs.LongerAll.{all-final}
-use Rattle.demands.proofs.KeptMeaning.{RefusedInWords}
+use Rattle.demands.specs.KeptMeaning.{RefusedInWords}
 use Rattle.demands.proofs.KeptFrame.{answer-says}
 use Rattle.demands.proofs.MeasureTake.{takes-kept, next-is-taken}
 
@@ -94,7 +94,7 @@ reads-kept s p room y d after q =
 -- ---- reading all frames
 
 -- a refusal is the run's, or the call's because the frames don't fit
-none-read : (s : List ℕ) (p size rows : ℕ) (x : AllRead) (y : Refused) (d : DssReader) → NoneRead y d ≡ givenAll s p size rows x
+none-read : (s : List ℕ) (p size rows : ℕ) (x : AllRead) (y : Refused) (d : DssReader) → NoneRead y d ≡ givenFrames s p size rows x
     → (P : AllRead → Type 0) → ((r : Refused) → y ≡ r → d ≡ leftAt p r → P (refusedAll r))
     → ((fs : List Frame) (q : ℕ) → framesFit s fs size rows ≡ false → y .place ≡ p → d ≡ standsAt p → P (frames fs q)) → P x
 none-read s p size rows (refusedAll r) y d e P f g =
@@ -119,13 +119,13 @@ not-dead w e = or-second (eqb (numberOf w) 1) (eqb (numberOf w) 16) e
 
 module _ (s : List ℕ) (p : ℕ) (room : List ℕ) (y : Refused) (d : DssReader) where
   -- the refusal isn't 16, so its place is where the reader is left
-  stands-kept : (rows : ℕ) → NoneRead y d ≡ givenAll s p (length room) rows (allFrames s p) → d ≡ standsAt (y .place)
+  stands-kept : (rows : ℕ) → NoneRead y d ≡ givenFrames s p (length room) rows (allFrames s p) → d ≡ standsAt (y .place)
   stands-kept rows e =
       none-read s p (length room) rows (allFrames s p) y d e (λ z. allFrames s p ≡ z → d ≡ standsAt (y .place))
       (λ r i j k. j ∙ ap standsAt (pick-no _ _ (not-dead (r .why) (all-final s p r k))) ∙ ap (λ (z : Refused). standsAt (z .place)) (sym i))
       (λ fs q t i j k. j ∙ ap standsAt (sym i)) refl
 
-  room-kept : (rows : ℕ) (x : AllRead) → NoneRead y d ≡ givenAll s p (length room) rows x → roomAll s room rows x ≡ room
+  room-kept : (rows : ℕ) (x : AllRead) → NoneRead y d ≡ givenFrames s p (length room) rows x → roomAll s room rows x ≡ room
   room-kept rows x e = none-read s p (length room) rows x y d e (λ z. roomAll s room rows z ≡ room) (λ r i j. refl) (λ fs q t i j. pick-no _ _ t)
 
   pub all-kept : (row : List DssFrame) (room-after : List ℕ) (row-after : List DssFrame) → ReadAllFrames s p room row (NoneRead y d) room-after row-after
@@ -137,14 +137,14 @@ module _ (s : List ℕ) (p : ℕ) (room : List ℕ) (y : Refused) (d : DssReader
         stands-kept (length row) e,
       )
 
-  row-kept : (row : List ℕ) → NoneRead y d ≡ givenAll s p (length room) (places row) (allFrames s p) → rowWords s p (length room) row (allFrames s p) ≡ row
-  row-kept row e = none-read s p (length room) (places row) (allFrames s p) y d e (λ z. rowWords s p (length room) row z ≡ row) (λ r i j. refl) (λ fs k t i j. pick-no _ _ t)
+  row-kept : (row : List ℕ) → NoneRead y d ≡ givenFrames s p (length room) (places row) (allFrames s p) → framesRow s p (length room) row (allFrames s p) ≡ row
+  row-kept row e = none-read s p (length room) (places row) (allFrames s p) y d e (λ z. framesRow s p (length room) row z ≡ row) (λ r i j. refl) (λ fs k t i j. pick-no _ _ t)
 
 -- ---- salvage
 
-not-fit : (s : List ℕ) (size rows : ℕ) (y : Refused) → NotSalvaged y ≡ call.given s size rows (salvaged s) → call.entriesFit s (salvaged s .entries) size rows ≡ false
+not-fit : (s : List ℕ) (size rows : ℕ) (y : Refused) → NotSalvaged y ≡ givenEntries s size rows (salvaged s) → entriesFit s (salvaged s .entries) size rows ≡ false
 not-fit s size rows y e =
-    by (call.entriesFit s (salvaged s .entries) size rows)
+    by (entriesFit s (salvaged s .entries) size rows)
     (λ t. let k = e ∙ pick-yes _ _ t in let z : _≡_ {A = ℕ} 0 1 = cc in absurd (omega arith))
     (λ t. t)
 
@@ -185,7 +185,7 @@ module _ (words : List ℕ) (n : ℕ) (answer : List ℕ) (nz : n ≡ 0 → ⊥)
 
   pub frame-kept : (s : List ℕ) (p : ℕ) (room after : List ℕ) → ReadsFrame s p room words n after answer → RefusedInWords words n answer × (after ≡ room)
   frame-kept s p room after q =
-      let x = of-read (given s p (length room) (readAt Reader s p)) (q .answers) in
+      let x = of-read (givenFrame s p (length room) (readAt Reader s p)) (q .answers) in
       (x .said, reads-kept s p room (x .y) (x .d) after (record { answers = sym (x .is); room-is = q .room-is }) .0)
 
   pub taken-kept : (rules : Rules) (s : List ℕ) (p : ℕ) (room after : List ℕ) → TakesFrame rules s p room words n after answer → RefusedInWords words n answer × (after ≡ room)
@@ -196,12 +196,12 @@ module _ (words : List ℕ) (n : ℕ) (answer : List ℕ) (nz : n ≡ 0 → ⊥)
   pub frames-kept : (s : List ℕ) (p : ℕ) (room row room-after row-after : List ℕ) → ReadsAllFrames s p room row words n room-after row-after answer
       → RefusedInWords words n answer × (room-after ≡ room) × (row-after ≡ row)
   frames-kept s p room row room-after row-after q =
-      let x = of-frames (givenAll s p (length room) (places row) (allFrames s p)) (q .answers) in
+      let x = of-frames (givenFrames s p (length room) (places row) (allFrames s p)) (q .answers) in
       (x .said, q .room-is ∙ room-kept s p room (x .y) (x .d) (places row) (allFrames s p) (sym (x .is)), q .row-is ∙ row-kept s p room (x .y) (x .d) row (sym (x .is)))
 
   pub salvage-kept : (s room row room-after row-after : List ℕ) → SalvagesInWords s room row words n room-after row-after answer
       → RefusedInWords words n answer × (room-after ≡ room) × (row-after ≡ row)
   salvage-kept s room row room-after row-after q =
-      let x = of-salvaged (call.given s (length room) (places row) (salvaged s)) (q .answers) in
+      let x = of-salvaged (givenEntries s (length room) (places row) (salvaged s)) (q .answers) in
       let t = not-fit s (length room) (places row) (x .y) (sym (x .is)) in
       (x .said, q .room-is ∙ pick-no _ _ t, q .row-is ∙ pick-no _ _ t)

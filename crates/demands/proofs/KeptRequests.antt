@@ -14,6 +14,7 @@ use ghost.Atoms.{Atoms}
 use contract.Lifetimes.{Lfts}
 use contract.Monad.{Fun, fact, fact-mono}
 use denote.Ref.{RefT, at-last}
+use Rattle.gateway_words.specs.AnswerWords.{answerLen}
 use Rattle.answer.specs.Numbers.{numberOf}
 use Rattle.answer.specs.declared.Refused.{Refused}
 use Rattle.dss_frame.specs.Reading.{readAt, positionLeft}
@@ -43,8 +44,7 @@ use Rattle.gateway_measure.specs.MeasureWords.{rulesOf}
 use Rattle.gateway_reader.proofs.lattrugone_next_frame.Reads as lattrugone-next-frame
 use Rattle.gateway_measure.proofs.lattrugone_measure_frame.Reads as lattrugone-measure-frame
 use Rattle.gateway_take.proofs.lattrugone_take_frame.Reads as lattrugone-take-frame
-use Rattle.gateway_row.specs.RowWords.{recordLen}
-use Rattle.gateway_row.specs.RecordBack.{cut}
+use Rattle.gateway_row.specs.RowWords.{recordLen, cut}
 use Rattle.gateway_frames.proofs.lattrugone_read_all_frames.Reads as lattrugone-read-all-frames
 use Rattle.gateway_salvage.proofs.lattrugone_salvage.Reads as lattrugone-salvage
 use Rattle.demands.specs.Stretches.{FramesStood, EntriesStood, WordsStood, AnswerStood}
@@ -53,7 +53,7 @@ use Rattle.demands.proofs.SalvageClauses.{lists}
 use Rattle.demands.proofs.StretchCalls.{next-stood, answer-stood, all-stood, all-words-stood, salvage-words-stood}
 use Rattle.demands.proofs.MeasureTake.{measures-then-takes, never-9, words-not-9, taken-as, not-refused, runs-alone, words-taken, words-alone, next-is-taken, next-words-taken, words-own}
 use borrow.Author.Tests.{ne-eqb}
-use Rattle.wire.specs.Laws.{pick-no}
+use Rattle.wire.proofs.WireLaws.{pick-no}
 use Rattle.demands.proofs.OwnHead.{own-head}
 
 -- ---- W-201, "Where each frame stood", of any run. The first `count` records of a row are those that were listed.
@@ -79,7 +79,7 @@ module _ {M : Type 1} (𝓤 : URA M) (H : Heap 𝓤) (A : Atoms 𝓤) (mem : Mem
 
 -- The exported functions, lent eight words: an answer of 0 says in its second word, or its fifth, where the last one ends, and in its
 -- third how many they are.
-module _ (s room words : RefT (List ℕ)) (room-after answer : List ℕ) (eight : 8 ≤ length (words .now)) where
+module _ (s room words : RefT (List ℕ)) (room-after answer : List ℕ) (eight : answerLen ≤ length (words .now)) where
   pub exported-next-read-stood : (κs : Lfts 3) (at : ℕ)
       → lattrugone-next-frame.Post κs (s, (at, (room, (words, tt)))) 0 (s, (at, (at-last room room-after, (at-last words answer, tt))))
       → AnswerStood (s .now) at room-after answer
@@ -154,25 +154,25 @@ module _ (rules : ℕ) (s : RefT (List ℕ)) (at : ℕ) where
   exported-measure-all-but-9 κs words number answer p k = words-not-9 (rulesOf rules) (s .now) at (words .now) number answer p k
 
   pub exported-taken-as-measured : (κs : Lfts 2) (κs′ : Lfts 3) (words words′ room : RefT (List ℕ)) (number : ℕ) (answer : List ℕ) (number′ : ℕ) (after answer′ : List ℕ)
-      → 8 ≤ length (words .now) → 8 ≤ length (words′ .now)
+      → answerLen ≤ length (words .now) → answerLen ≤ length (words′ .now)
       → lattrugone-measure-frame.Post κs (rules, (s, (at, (words, tt)))) number (rules, (s, (at, (at-last words answer, tt))))
       → lattrugone-take-frame.Post κs′ (rules, (s, (at, (room, (words′, tt))))) number′ (rules, (s, (at, (at-last room after, (at-last words′ answer′, tt)))))
-      → TakenInWords (payloadAt (rulesOf rules) (s .now) at) at number (take 8 answer) (room .now) number′ (take 8 answer′) after
+      → TakenInWords (payloadAt (rulesOf rules) (s .now) at) at number (take answerLen answer) (room .now) number′ (take answerLen answer′) after
   exported-taken-as-measured κs κs′ words words′ room number answer number′ after answer′ h h′ p q =
       words-taken (rulesOf rules) (s .now) at (words .now) (words′ .now) (room .now) number answer number′ after answer′ h h′ p q
 
   pub exported-taken-by-run-alone : (κs κs′ : Lfts 3) (words words′ room room′ : RefT (List ℕ)) (number : ℕ) (after answer : List ℕ) (number′ : ℕ) (after′ answer′ : List ℕ)
-      → 8 ≤ length (words .now) → 8 ≤ length (words′ .now)
+      → answerLen ≤ length (words .now) → answerLen ≤ length (words′ .now)
       → lattrugone-take-frame.Post κs (rules, (s, (at, (room, (words, tt))))) number (rules, (s, (at, (at-last room after, (at-last words answer, tt)))))
       → lattrugone-take-frame.Post κs′ (rules, (s, (at, (room′, (words′, tt))))) number′ (rules, (s, (at, (at-last room′ after′, (at-last words′ answer′, tt)))))
-      → ByRunAloneInWords at number (take 8 answer) after number′ (take 8 answer′) after′
+      → ByRunAloneInWords at number (take answerLen answer) after number′ (take answerLen answer′) after′
   exported-taken-by-run-alone κs κs′ words words′ room room′ number after answer number′ after′ answer′ h h′ p q =
       words-alone (rulesOf rules) (s .now) at (words .now) (words′ .now) (room .now) (room′ .now) number after answer number′ after′ answer′ h h′ p q
 
   -- by any number but 0 the rules are salvage's, and the place of every refusal but 16 is the position
-  pub exported-salvage-measure-stays : (rules ≡ 0 → ⊥) → (κs : Lfts 2) (words : RefT (List ℕ)) (number : ℕ) (answer : List ℕ) → 8 ≤ length (words .now)
+  pub exported-salvage-measure-stays : (rules ≡ 0 → ⊥) → (κs : Lfts 2) (words : RefT (List ℕ)) (number : ℕ) (answer : List ℕ) → answerLen ≤ length (words .now)
       → lattrugone-measure-frame.Post κs (rules, (s, (at, (words, tt)))) number (rules, (s, (at, (at-last words answer, tt))))
-      → (number ≡ 0 → ⊥) → (number ≡ 16 → ⊥) → getD (take 8 answer) 1 0 ≡ at
+      → (number ≡ 0 → ⊥) → (number ≡ 16 → ⊥) → getD (take answerLen answer) 1 0 ≡ at
   exported-salvage-measure-stays z κs words number answer h p i j = words-own (rulesOf rules) (s .now) at (pick-no _ _ (ne-eqb rules 0 z)) (words .now) number answer h p i j
 
 -- by the number 0 they are the reader's, and `next_frame`, lent the same, answers and leaves the same

@@ -12,30 +12,30 @@ use borrow.Author.Tests.{le-leb, leb-true}
 use contract.Lifetimes.{Lfts}
 use denote.Ref.{RefT, at-last}
 use Rattle.wire.specs.Bytes.{part, splice, laid}
-use Rattle.wire.specs.Laws.{pick-yes, picked}
-use Rattle.wire.specs.Places.{here-part}
-use Rattle.wire.specs.Splice.{laid-fits}
+use Rattle.wire.proofs.WireLaws.{pick-yes, picked}
+use Rattle.wire.proofs.Places.{here-part}
+use Rattle.wire.proofs.Splicing.{laid-fits}
 use Rattle.answer.specs.Rooms.{roomFor}
 use Rattle.answer.specs.declared.Refused.{Refused}
 use Rattle.answer.specs.declared.RoomFor.{RoomFor}
 use Rattle.answer.specs.declared.RoomFor.the-variants.{Enough, Refused as Refuses}
 use Rattle.dss_head.specs.declared.DssType.{DssType}
 use Rattle.dss_frame.specs.Segments.{payloadOf}
-use Rattle.dss_frame.specs.Records.{recordOf}
+use Rattle.dss_frame.specs.FrameRecords.{frameRecord}
 use Rattle.dss_frame.specs.Written.{Sent, written}
 use Rattle.dss_take.specs.Take.{roomRead}
 use Rattle.dss_writer.specs.Writer.{sent, wroteBy, Writes}
 use Rattle.dss_writer.specs.declared.DssWriter.{DssWriter}
 use Rattle.dss_writer.specs.declared.Wrote.the-variants.{Done, Refused as NotWritten}
 use Rattle.dss_writer.proofs.DssWriter.write_dss_full.Reads as write-dss-full
-use Rattle.dss_reader.specs.Reader.{standsAt, given, NextFrame}
+use Rattle.dss_reader.specs.Reader.{standsAt, givenFrame, NextFrame}
 use Rattle.dss_reader.specs.declared.DssReader.{DssReader}
 use Rattle.dss_reader.specs.declared.FrameRead.{FrameRead}
 use Rattle.dss_reader.specs.declared.FrameRead.the-variants.{Frame as Hands, Refused as NotRead}
 use Rattle.dss_reader.proofs.DssReader.next_frame.Reads as next-frame
 use Rattle.layouts.specs.DssLayout.{Structure, Allowed, Dss, FullLast}
-use Rattle.demands.specs.Layouts.{structureOf}
-use Rattle.demands.proofs.KeptMeaning.{StructureBack, notYet}
+use Rattle.demands.specs.DssLayouts.{structureOf}
+use Rattle.demands.specs.KeptMeaning.{StructureBack, notYet}
 use Rattle.demands.proofs.WrittenLayout.{writes-layout}
 use Rattle.demands.proofs.LayoutReads.{reads-layout, waits-behind-full}
 
@@ -99,16 +99,16 @@ module _ (w : Structure) (b : List ℕ) (l : Dss w b) (room : List ℕ) (r : Fra
         read = g;
         is =
             p .answers
-            ∙ ap (given b 0 (length room)) (x .is)
+            ∙ ap (givenFrame b 0 (length room)) (x .is)
             ∙ pick-yes _ _ (le-leb (length (payloadOf b (g .segments))) (length room) fits)
-            ∙ ap (λ (n : ℕ). Hands (recordOf b 0 0 g) (standsAt n)) (x .consumed);
+            ∙ ap (λ (n : ℕ). Hands (frameRecord b 0 0 g) (standsAt n)) (x .consumed);
         says = x .says;
         room-is = p .room-is ∙ ap (roomRead b room) (x .is) ∙ ap (laid room 0) e ∙ laid-fits room 0 (w .payload) (omega arith);
       }
 
   -- the difference: 1, position and room as they were
   pub layout-not-whole : FullLast l → (r ≡ NotRead (notYet 0) (standsAt 0)) × (after ≡ room)
-  layout-not-whole k = (p .answers ∙ ap (given b 0 (length room)) (waits-behind-full w b l k), p .room-is ∙ ap (roomRead b room) (waits-behind-full w b l k))
+  layout-not-whole k = (p .answers ∙ ap (givenFrame b 0 (length room)) (waits-behind-full w b l k), p .room-is ∙ ap (roomRead b room) (waits-behind-full w b l k))
 
 -- over the contract of `next_frame` itself
 pub next-frame-laid : (κs : Lfts 2) (reader : DssReader) (run room : RefT (List ℕ)) (r : FrameRead) (after : List ℕ) (w : Structure) (l : Dss w (run .now))

@@ -8,13 +8,13 @@ use mathlib.Core.Logic.{_⊎_, inl, inr}
 use mathlib.Core.List.{List, [], _∷_, _++_}
 use native.Mathlib.Decide.{decLe}
 use lib.ListN.{length, getD, take, drop, replicate, length-replicate}
-use Rattle.wire.specs.Bytes.{be16, two}
-use Rattle.wire.specs.Laws.{true-false, two-back}
-use Rattle.wire.specs.Octets.{Octets, octets-append, octets-tested}
+use Rattle.wire.specs.Bytes.{be16, two, Octets}
+use Rattle.wire.proofs.WireLaws.{true-false, two-back}
+use Rattle.wire.proofs.OctetLaws.{octets-append, octets-tested}
 use Rattle.answer.specs.declared.Refusal.the-variants.{Incomplete, InvalidDssType}
 use Rattle.answer.specs.declared.Refused.{Refused}
 use Rattle.dss_head.specs.Heads.{bit, typeByte, flagsByte, flagsOf}
-use Rattle.dss_head.specs.HeadLaws.{format-back}
+use Rattle.dss_head.proofs.HeadLaws.{format-back}
 use Rattle.dss_head.specs.declared.DssFlags.{DssFlags}
 use Rattle.dss_head.specs.declared.DssHeader.{DssHeader}
 use Rattle.dss_head.specs.declared.DssType.{DssType}
@@ -23,9 +23,9 @@ use Rattle.dss_frame.specs.declared.Rules.the-variants.{Reader, Salvage}
 use Rattle.dss_frame.specs.Segments.{payloadOf, endOf, frameWalk, continuations, walkFuel}
 use Rattle.dss_frame.specs.Reading.{Read, Frame, frame, refused, readAt, absorb, absorbFuel, look}
 use Rattle.dss_frame.specs.Written.{Sent, headOf, chunks, written}
-use Rattle.dss_laws.specs.Writing.{written-single, written-several}
+use Rattle.dss_laws.proofs.WritingLaws.{written-single, written-several}
 use Rattle.layouts.specs.DssLayout.{Structure, Allowed, ends, Dss, one, several, EndsFull, FullLast, rest}
-use Rattle.demands.specs.Layouts.{structureOf, WritesLayout, ReadAs, ReadsLayout, ReadsFullLast, WaitsBehindFull, LayoutFixes, NoLayout}
+use Rattle.demands.specs.DssLayouts.{structureOf, WritesLayout, ReadAs, ReadsDssLayout, ReadsFullLast, WaitsBehindFull, LayoutFixes, NoLayout}
 use Rattle.demands.proofs.Mending.{octets-same}
 use Rattle.demands.proofs.Impostors.{empty, sendable, frame-refused, same-frame}
 use Rattle.demands.proofs.WrittenLayout.{allowed-sent, writes-layout}
@@ -111,12 +111,12 @@ abbrev pub twoChunks : List ℕ → List ℕ → List ℕ
 twoChunks x y = two 0xFFFF ++ (rest (object (x ++ y)) ++ (x ++ (two (length y + 2) ++ y)))
 
 -- two segments, whatever is in them; the last is full or it isn't
-pub record Cut (x y : List ℕ) : Type 0 where
+pub record CutShort (x y : List ℕ) : Type 0 where
   pub laid : Dss (object (x ++ y)) (twoChunks x y)
   pub full : length y + 2 ≡ 0x7FFF → FullLast laid
   pub short : FullLast laid → length y + 2 ≡ 0x7FFF
 
-cut : (x y : List ℕ) → length x ≡ 32761 → length y ≤ 32765 → Octets (x ++ y) → Cut x y
+cut : (x y : List ℕ) → length x ≡ 32761 → length y ≤ 32765 → Octets (x ++ y) → CutShort x y
 unfolding FullLast EndsFull
 cut x y h k o =
     record {
@@ -132,7 +132,7 @@ filling n = replicate n 0xC1
 pub filling-length : (n : ℕ) → length (filling n) ≡ n
 filling-length n = length-replicate {A = ℕ} n 0xC1
 
-pub filled : (n : ℕ) → n ≤ 32765 → Cut (filling 32761) (filling n)
+pub filled : (n : ℕ) → n ≤ 32765 → CutShort (filling 32761) (filling n)
 filled n h =
     cut (filling 32761) (filling n) (filling-length 32761) (omega (arith, filling-length n))
     (octets-append (filling 32761) (filling n) (octets-same 32761 0xC1 (omega arith)) (octets-same n 0xC1 (omega arith)))
@@ -258,14 +258,14 @@ no-fixed-layout b all =
     omega arith
 
 -- a reader that refuses everything, one that answers one thing, and one that forgets continue on error
-pub no-layout-refuser : (r : List ℕ → ℕ → Refused) → ReadsLayout (λ s p. refused (r s p)) → ⊥
+pub no-layout-refuser : (r : List ℕ → ℕ → Refused) → ReadsDssLayout (λ s p. refused (r s p)) → ⊥
 unfolding FullLast asked-laid
 no-layout-refuser r back = let b = back (asking true) asked asked-laid (λ k. k) in frame-refused (refused (r asked 0)) (b .read) (r asked 0) (b .is) refl
 
 quiet : Dss (asking false) (0x00 ∷ 0x07 ∷ 0xD0 ∷ 0x51 ∷ 0x12 ∷ 0x34 ∷ 0xC1 ∷ [])
 quiet = one (asking-allowed false) (omega arith)
 
-pub no-layout-fixed : (x : Read) → ReadsLayout (λ s p. x) → ⊥
+pub no-layout-fixed : (x : Read) → ReadsDssLayout (λ s p. x) → ⊥
 unfolding FullLast asked-laid quiet
 no-layout-fixed x back =
     let a = back (asking true) asked asked-laid (λ k. k) in
@@ -290,7 +290,7 @@ forgotten : (x : Read) (g : Frame) → forgets x ≡ frame g → g .head .flags 
 forgotten (refused r) g e = absurd (frame-refused (refused r) g r e refl)
 forgotten (frame h) g e = ap (λ (k : Frame). k .head .flags .«continue_on_error») (same-frame (frame g) g _ refl (sym e))
 
-pub no-forgetting : (reads : List ℕ → ℕ → Read) → ReadsLayout (λ s p. forgets (reads s p)) → ⊥
+pub no-forgetting : (reads : List ℕ → ℕ → Read) → ReadsDssLayout (λ s p. forgets (reads s p)) → ⊥
 unfolding FullLast asked-laid
 no-forgetting reads back =
     let a = back (asking true) asked asked-laid (λ k. k) in
@@ -312,7 +312,7 @@ no-both-layouts reads waits back =
     frame-refused (reads b 0) (r .read) (record { why = Incomplete; place = 0 }) (r .is) (waits _ _ (c .laid) (c .full (omega (arith, filling-length 32765))))
 
 -- a reader of four types
-pub no-four-types : (reads : List ℕ → ℕ → Read) → reads unanswered 0 ≡ refused (record { why = InvalidDssType 5; place = 0 }) → ReadsLayout reads → ⊥
+pub no-four-types : (reads : List ℕ → ℕ → Read) → reads unanswered 0 ≡ refused (record { why = InvalidDssType 5; place = 0 }) → ReadsDssLayout reads → ⊥
 unfolding FullLast no-reply-laid
 no-four-types reads e back =
     let r = back noReply unanswered no-reply-laid (λ k. k) in frame-refused (reads unanswered 0) (r .read) (record { why = InvalidDssType 5; place = 0 }) (r .is) e

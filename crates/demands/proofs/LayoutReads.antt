@@ -8,11 +8,11 @@ use lib.Dec.{eqb}
 use lib.ListN.{length, drop, length-append}
 use borrow.Author.Tests.{le-leb, le-ltb}
 use Rattle.wire.specs.Bytes.{be16, two}
-use Rattle.wire.specs.Laws.{pick-by, pick-yes, pick-no, two-back}
-use Rattle.wire.specs.Places.{here-first, here-length, piece-part, piece-next}
+use Rattle.wire.proofs.WireLaws.{pick-by, pick-yes, pick-no, two-back}
+use Rattle.wire.proofs.Places.{here-first, here-length, piece-part, piece-next}
 use Rattle.dss_head.specs.Heads.{headAt, lengthOf, typeByte}
-use Rattle.dss_head.specs.Types.{type-known}
-use Rattle.dss_head.specs.HeadLaws.{head-back}
+use Rattle.dss_head.proofs.TypeLaws.{type-known}
+use Rattle.dss_head.proofs.HeadLaws.{head-back}
 use Rattle.dss_head.specs.declared.DssHeader.{DssHeader}
 use Rattle.dss_head.specs.declared.DssType.{DssType}
 use Rattle.dss_head.specs.declared.HeadFound.{HeadFound}
@@ -22,12 +22,12 @@ use Rattle.dss_frame.specs.declared.Rules.{Rules}
 use Rattle.dss_frame.specs.declared.Rules.the-variants.{Reader, Salvage}
 use Rattle.dss_frame.specs.Segments.{Segment, whole, short, behind, continuation, first, continuations, frameWalk, payloadOf, endOf}
 use Rattle.dss_frame.specs.Reading.{Read, frame, readHead, readWalk, readAt}
-use Rattle.dss_laws.specs.RawLengths.{MayEnd, chunk-ends, chunk-full, chunk-full-low}
-use Rattle.dss_laws.specs.Continuations.{continuations-short, continuations-last, continuations-full}
-use Rattle.dss_laws.specs.Framed.{Framed, single, WholeUnder, segmentsOf, framed-walk, walk-several}
-use Rattle.dss_laws.specs.Looks.{look-nothing, absorb-finished}
+use Rattle.dss_laws.proofs.RawLengths.{MayEnd, chunk-ends, chunk-full, chunk-full-low}
+use Rattle.dss_laws.proofs.Continuations.{continuations-short, continuations-last, continuations-full}
+use Rattle.dss_laws.proofs.Framed.{Framed, single, WholeUnder, segmentsOf, framed-walk, walk-several}
+use Rattle.dss_laws.proofs.Looking.{look-nothing, absorb-finished}
 use Rattle.layouts.specs.DssLayout.{Structure, Continued, ends, goes-on, EndsFull, Dss, one, several, FullLast, rest}
-use Rattle.demands.specs.Layouts.{ReadAs, ReadsLayout, ReadsFullLast, WaitsBehindFull}
+use Rattle.demands.specs.DssLayouts.{ReadAs, ReadsDssLayout, ReadsFullLast, WaitsBehindFull}
 use Rattle.demands.proofs.FaithfulLayout.{allowed-in}
 use Rattle.demands.proofs.WrittenLayout.{headIn, head-bytes}
 
@@ -218,7 +218,7 @@ reads-under rules w s l k =
       consumed = g .end;
     }
 
-pub reads-layout : ReadsLayout (readAt Reader)
+pub reads-layout : ReadsDssLayout (readAt Reader)
 reads-layout = reads-under Reader
 
 pub reads-full-last : ReadsFullLast (readAt Salvage)

@@ -1,3 +1,8 @@
+pub mod DeadEdges
+pub mod Edges
+pub mod Limits
+pub mod NoReply
+pub mod Table
 pub mod WrittenFrames
 pub mod ReadBack
 pub mod Standing
@@ -31,7 +36,6 @@ pub mod SalvageKeeps
 pub mod SeveralRun
 pub mod SalvageImpostors
 pub mod ReaderClauses
-pub mod KeptMeaning
 pub mod KeptFrame
 pub mod KeptRows
 pub mod StretchCalls

@@ -10,7 +10,7 @@ use lib.Dec.{ltb, leb, eqb}
 use lib.ListN.{length, length-append}
 use borrow.Author.Tests.{ltb-true, ltb-false, leb-true, eqb-false, le-leb}
 use Rattle.wire.specs.Bytes.{be16, or}
-use Rattle.wire.specs.Laws.{by, picked, pick-yes, true-false, be16-front}
+use Rattle.wire.proofs.WireLaws.{by, picked, pick-yes, true-false, be16-front}
 use Rattle.answer.specs.Numbers.{numberOf, notWhole}
 use Rattle.answer.specs.Rooms.{outOfBounds}
 use Rattle.answer.specs.declared.Refusal.the-variants.{Incomplete, LengthTooShort}
@@ -22,8 +22,8 @@ use Rattle.dss_frame.specs.declared.Rules.{Rules}
 use Rattle.dss_frame.specs.Segments.{Segment, payloadOf, endOf, Walk, dead, frameWalk}
 use Rattle.dss_frame.specs.Reading.{Look, look, Read, frame, refused, Frame, startsExtended, withChained, behindFrame, absorb, absorbFuel, readHead, readWalk, readAt}
 use Rattle.demands.specs.Longer.{Unsettled, few-left, Settled, OfHead, Final, RefusalsStay, SettledStay, Grown, goes-on, refused-behind, FramesGrow, DeadStays}
-use Rattle.dss_laws.specs.Ends.{end-snoc, payload-append}
-use Rattle.dss_laws.specs.Looks.{Taken, absorb-step}
+use Rattle.dss_laws.proofs.Ends.{end-snoc, payload-append}
+use Rattle.dss_laws.proofs.Looking.{TakenLook, absorb-step}
 use Rattle.demands.proofs.LongerRuns.{picks, SameBytes, same-snoc, head-longer, HeadSays, finds, refuses-head, head-says, walk-few, Stays, stays-whole, stays-dead, was-short, frame-stays}
 use Rattle.demands.proofs.LongerLooks.{Looks, finishes, takes, stops, unsettled, look-longer}
 
@@ -94,7 +94,7 @@ absorb-becomes (suc k) rules s t p h gs ne l e =
     (λ g c w. absorb-becomes k rules s t p (withChained h c) (gs ++ (g ∷ [])) ne (rw end-snoc (omega arith)) (same-snoc s t gs g (w .there) e))
   where
     by-look : (l₁ l₂ : Look) → Looks s (h .«dss_type») (endOf p gs) l₁ l₂ → absorb rules (s ++ t) p h gs ≡ behindFrame h gs l₂ (absorb rules (s ++ t) p)
-        → ((g : Segment) (c : Bool) → Taken s (endOf p gs) g
+        → ((g : Segment) (c : Bool) → TakenLook s (endOf p gs) g
         → Becomes rules s t p (absorbFuel k rules s p (withChained h c) (gs ++ (g ∷ []))) (absorb rules (s ++ t) p (withChained h c) (gs ++ (g ∷ []))))
         → Becomes rules s t p (behindFrame h gs l₁ (λ h′ gs′. absorbFuel k rules s p h′ gs′)) (absorb rules (s ++ t) p h gs)
     by-look l₁ l₂ finishes step go = subst (Becomes rules s t p _) (sym step) (same-frame (record { head = h; segments = gs }) e)

@@ -10,7 +10,7 @@ use lib.Dec.{eqb}
 use lib.ListN.{length}
 use borrow.Author.Tests.{le-leb}
 use Rattle.wire.specs.Bytes.{or}
-use Rattle.wire.specs.Laws.{picked, pick-yes, pick-no}
+use Rattle.wire.proofs.WireLaws.{picked, pick-yes, pick-no}
 use Rattle.answer.specs.Numbers.{notWhole}
 use Rattle.answer.specs.declared.Refusal.the-variants.{Incomplete}
 use Rattle.answer.specs.declared.Refused.{Refused}
@@ -20,8 +20,8 @@ use Rattle.dss_frame.specs.Segments.{endOf}
 use Rattle.dss_frame.specs.Reading.{Read, frame, refused, Frame, readWalk, readAt}
 use Rattle.dss_frame.specs.Frames.{AllRead, frames, refusedAll, before, andOn, framesFuel, allFrames}
 use Rattle.demands.specs.Longer.{Unsettled, AllRefusalsStay}
-use Rattle.dss_laws.specs.Bounds.{OfFrame, is-frame, is-refused, Past, read-past}
-use Rattle.dss_laws.specs.AllFrames.{frames-more, frames-refused}
+use Rattle.dss_laws.proofs.Bounds.{OfFrame, is-frame, is-refused, Past, read-past}
+use Rattle.dss_laws.proofs.FramesLaws.{frames-more, frames-refused}
 use Rattle.demands.proofs.LongerLooks.{unsettled-short}
 use Rattle.demands.proofs.Longer.{head-refuses, Becomes, same-refusal, same-frame, open-frame, not-whole, read-becomes}
 

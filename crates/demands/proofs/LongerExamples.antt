@@ -11,7 +11,7 @@ use Rattle.dss_frame.specs.declared.Rules.the-variants.{Reader, Salvage}
 use Rattle.dss_frame.specs.Segments.{Segment, payloadOf, endOf, frameWalk, continuations, walkFuel}
 use Rattle.dss_frame.specs.Reading.{Frame, frame, refused, readAt, absorb, absorbFuel, look}
 use Rattle.dss_frame.specs.Frames.{refusedAll, framesFuel, allFrames}
-use Rattle.demands.specs.Table.{p2, p8}
+use Rattle.demands.proofs.Table.{p2, p8}
 use Rattle.demands.specs.Longer.{Unsettled, few-left, beyond, Settled}
 
 -- the empty reply of P2

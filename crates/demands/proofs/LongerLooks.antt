@@ -10,7 +10,7 @@ use lib.Dec.{ltb, leb, eqb}
 use lib.ListN.{length, length-append}
 use borrow.Author.Tests.{ltb-true, ltb-false, leb-true, leb-false, eqb-false, le-ltb, lt-leb, eq-eqb, ne-eqb}
 use Rattle.wire.specs.Bytes.{pick, and, be16, marker}
-use Rattle.wire.specs.Laws.{and-split, pick-by, pick-yes, pick-no, be16-front}
+use Rattle.wire.proofs.WireLaws.{and-split, pick-by, pick-yes, pick-no, be16-front}
 use Rattle.answer.specs.declared.Refusal.the-variants.{LengthTooShort}
 use Rattle.answer.specs.declared.Refused.{Refused}
 use Rattle.dss_head.specs.Heads.{headAt}
@@ -23,13 +23,13 @@ use Rattle.dss_frame.specs.declared.Rules.the-variants.{Reader, Salvage}
 use Rattle.dss_frame.specs.Segments.{Segment, short, frameWalk}
 use Rattle.dss_frame.specs.Reading.{Look, finished, absorbs, refuses, look, lookAt, refusal, follows, ownObject, droppedAt}
 use Rattle.demands.specs.Longer.{Unsettled, few-left, beyond, OfHead, Apart, continued, clear, other-type, own-object}
-use Rattle.dss_laws.specs.Looks.{Taken}
+use Rattle.dss_laws.proofs.Looking.{TakenLook}
 use Rattle.demands.proofs.LongerRuns.{picks, picks-later, fits-longer, head-longer, HeadSays, finds, refuses-head, head-says, walk-few}
 
 -- what a look at q says, and what one over a longer run says
 pub data Looks (s : List ℕ) (type : DssType) (q : ℕ) : Look → Look → Type 0 where
   finishes : Looks s type q finished finished
-  takes : (g : Segment) (c : Bool) → Taken s q g → Looks s type q (absorbs g c) (absorbs g c)
+  takes : (g : Segment) (c : Bool) → TakenLook s q g → Looks s type q (absorbs g c) (absorbs g c)
   stops : (r : Refused) → OfHead r → r .place ≡ q → Looks s type q (refuses r) (refuses r)
   unsettled : Unsettled s type q → (l : Look) → Looks s type q finished l
 

@@ -11,10 +11,10 @@ use lib.ListN.{length, getD, take, drop, length-append, length-drop}
 use lib.Seq.{drop-append-le}
 use borrow.Author.Tests.{ltb-true, ltb-false, leb-true, le-ltb, lt-ltb, le-leb}
 use Rattle.wire.specs.Bytes.{pick, be16, part}
-use Rattle.wire.specs.Laws.{pick-by, pick-yes, pick-no, be16-front, part-front}
+use Rattle.wire.proofs.WireLaws.{pick-by, pick-yes, pick-no, be16-front, part-front}
 use Rattle.answer.specs.declared.Refused.{Refused}
 use Rattle.dss_head.specs.Heads.{headAt, headWith, typeAt}
-use Rattle.dss_head.specs.Types.{type-by}
+use Rattle.dss_head.proofs.TypeLaws.{type-by}
 use Rattle.dss_head.specs.declared.Chunk.{Chunk}
 use Rattle.dss_head.specs.declared.Chunk.the-variants.{Dead, Last, Full}
 use Rattle.dss_head.specs.declared.DssHeader.{DssHeader}
@@ -25,9 +25,9 @@ use Rattle.dss_frame.specs.Rules.{chunkUnder}
 use Rattle.dss_frame.specs.declared.Rules.{Rules}
 use Rattle.dss_frame.specs.Segments.{Segment, payloadOf, Walk, whole, short, dead, behind, continuation, first, step, walkFuel, continuations, frameWalk}
 use Rattle.demands.specs.Longer.{OfHead}
-use Rattle.dss_laws.specs.Ends.{payload-append}
-use Rattle.dss_laws.specs.HeadLaws.{head-moved}
-use Rattle.dss_laws.specs.Continuations.{continuations-step}
+use Rattle.dss_laws.proofs.Ends.{payload-append}
+use Rattle.dss_laws.proofs.HeadFields.{head-moved}
+use Rattle.dss_laws.proofs.Continuations.{continuations-step}
 
 -- ---- two choices, related where each test picks
 

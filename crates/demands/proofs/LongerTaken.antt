@@ -8,7 +8,7 @@ use lib.Dec.{ltb, leb, eqb}
 use lib.ListN.{length}
 use borrow.Author.Tests.{ne-eqb}
 use Rattle.wire.specs.Bytes.{pick, be16}
-use Rattle.wire.specs.Laws.{true-false, pick-by, pick-no, pick-same}
+use Rattle.wire.proofs.WireLaws.{true-false, pick-by, pick-no, pick-same}
 use Rattle.answer.specs.Rooms.{outOfBounds}
 use Rattle.answer.specs.declared.Refused.{Refused}
 use Rattle.dss_head.specs.Heads.{headAt}
@@ -24,7 +24,7 @@ use Rattle.dss_reader.specs.declared.FrameEnd.{FrameEnd}
 use Rattle.demands.specs.Demands.{Reader}
 use Rattle.demands.specs.Longer.{SettledStay, OfHead, Grown, goes-on, refused-behind, FramesGrow, Complete, WholeBehindSettles, TakenStay, Begins, WaitingLosesNothing, SalvageKeepsWaiting, EarlyStay}
 use Rattle.demands.specs.Mending.{decided}
-use Rattle.dss_laws.specs.Looks.{absorb-finished}
+use Rattle.dss_laws.proofs.Looking.{absorb-finished}
 use Rattle.demands.proofs.LongerRuns.{SameBytes}
 use Rattle.demands.proofs.LongerLooks.{unsettled-short, apart-finished}
 use Rattle.demands.proofs.Longer.{absorb-grown, Becomes, same-refusal, same-frame, open-frame, not-whole, read-becomes, frame-refused, same-refused, same-framed, inside, settled-stay, frames-grow}

@@ -9,8 +9,8 @@ use mathlib.Core.List.{List, [], _∷_, _++_}
 use lib.Dec.{ltb}
 use lib.ListN.{length}
 use Rattle.wire.specs.Bytes.{pick}
-use Rattle.wire.specs.Laws.{true-false}
-use Rattle.wire.specs.Octets.{octets-tested}
+use Rattle.wire.proofs.WireLaws.{true-false}
+use Rattle.wire.proofs.OctetLaws.{octets-tested}
 use Rattle.answer.specs.declared.Refusal.the-variants.{Incomplete}
 use Rattle.dss_head.specs.declared.DssType.{DssType}
 use Rattle.dss_head.specs.declared.DssType.the-variants.{Reply, Object}
@@ -19,7 +19,7 @@ use Rattle.dss_frame.specs.Segments.{Segment, payloadOf, endOf, frameWalk, cont
 use Rattle.dss_frame.specs.Reading.{Read, Frame, frame, refused, readAt, absorb, absorbFuel, look}
 use Rattle.dss_reader.specs.Reader.{frameEnd}
 use Rattle.layouts.specs.DssLayout.{Structure, Allowed, Dss, one}
-use Rattle.demands.specs.Table.{p2}
+use Rattle.demands.proofs.Table.{p2}
 use Rattle.demands.specs.Longer.{Settled, few-left, WholeBehindSettles, WaitingLosesNothing, clear}
 use Rattle.demands.proofs.Longer.{same-framed}
 use Rattle.demands.proofs.LongerTaken.{complete, reader-taken-stay, early-stay}

@@ -8,8 +8,8 @@ use mathlib.Core.List.{List, []}
 use lib.ListN.{length, getD, take}
 use borrow.Author.Tests.{lt-leb, ne-eqb}
 use Rattle.wire.specs.Bytes.{splice}
-use Rattle.wire.specs.Laws.{pick-no}
-use Rattle.wire.specs.Splice.{splice-written}
+use Rattle.wire.proofs.WireLaws.{pick-no}
+use Rattle.wire.proofs.Splicing.{splice-written}
 use Rattle.answer.specs.Numbers.{numberOf}
 use Rattle.answer.specs.Rooms.{noRoom, outOfBounds}
 use Rattle.answer.specs.declared.Refused.{Refused}
@@ -20,14 +20,15 @@ use Rattle.dss_measure.specs.declared.FrameMeasure.{FrameMeasure}
 use Rattle.dss_measure.specs.declared.Measured.{Measured}
 use Rattle.dss_measure.specs.declared.Measured.the-variants.{Frame as Gives, Refused as Refuses}
 use Rattle.dss_measure.specs.Measure.{measuredAt}
-use Rattle.dss_row.specs.Measures.{measured-not}
+use Rattle.dss_measure.proofs.Measures.{measured-not}
 use Rattle.dss_take.specs.Take.{takenOf, roomRead, payloadAt, Takes}
-use Rattle.dss_take.specs.Answers.{measures, takes-refusal, takes-size, takes-short, takes-frame}
-use Rattle.dss_reader.specs.Reader.{given, readOf, NextFrame}
-use Rattle.dss_reader.specs.Taking.{next-is}
+use Rattle.dss_measure.proofs.Measures.{measures}
+use Rattle.dss_take.proofs.TakeAnswers.{takes-refusal, takes-size, takes-short, takes-frame}
+use Rattle.dss_reader.specs.Reader.{givenFrame, readOf, NextFrame}
+use Rattle.dss_reader.proofs.TakingFrames.{next-is}
 use Rattle.dss_reader.specs.declared.FrameRead.{FrameRead}
-use Rattle.gateway_words.specs.Words.{Answered}
-use Rattle.gateway_row.specs.RecordBack.{numbered}
+use Rattle.gateway_words.specs.AnswerWords.{Answered}
+use Rattle.gateway_row.proofs.RecordBack.{numbered}
 use Rattle.gateway_reader.specs.ReaderWords.{frameWords, ReadsFrame}
 use Rattle.gateway_measure.specs.MeasureWords.{measuredWords}
 use Rattle.gateway_take.specs.TakeWords.{TakesFrame}
@@ -308,6 +309,6 @@ pub next-words-taken : (s : List ℕ) (p : ℕ) (room words : List ℕ) (n : ℕ
     → (n ≡ n′) × (a ≡ a′) × (after ≡ after′)
 next-words-taken s p room words n after a n′ after′ a′ x y =
     let r : Measured = takenOf s p (length room) (readAt Reader s p) in
-    let e : given s p (length room) (readAt Reader s p) ≡ readOf p r = next-is-taken s p room _ _ r _ (record { answers = refl; room-is = refl }) (record { answers = refl; room-is = refl }) .0 in
+    let e : givenFrame s p (length room) (readAt Reader s p) ≡ readOf p r = next-is-taken s p room _ _ r _ (record { answers = refl; room-is = refl }) (record { answers = refl; room-is = refl }) .0 in
     let w : Answered (measuredWords p r) words n a = subst (λ (l : List ℕ). Answered l words n a) (ap frameWords e ∙ read-words p r) (x .answers) in
     (w .number-is ∙ sym (y .answers .number-is), w .words-are ∙ sym (y .answers .words-are), x .room-is ∙ sym (y .room-is))

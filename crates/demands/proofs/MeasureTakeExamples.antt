@@ -24,12 +24,12 @@ use Rattle.dss_measure.specs.declared.Measured.the-variants.{Frame as Gives, Re
 use Rattle.dss_take.specs.Take.{payloadAt}
 use Rattle.dss_reader.specs.Reader.{standsAt, readOf}
 use Rattle.gateway_measure.specs.MeasureWords.{rulesOf}
-use Rattle.demands.specs.Table.{p8}
+use Rattle.demands.proofs.Table.{p8}
 use Rattle.demands.specs.MeasureTake.{TakenAs, MeasuresThenTakes, ByRunAlone, TakenInWords, ByRunAloneInWords}
 use Rattle.demands.proofs.MeasureTake.{gives-refuses, gives-same, by-run-alone}
 use Rattle.demands.proofs.Kept.{take-refused, exported-take-refused}
 use Rattle.demands.proofs.KeptRequests.{taken-as-measured, taken-by-run-alone, extent-as-measured, salvage-measure-stays, next-frame-as-taken, exported-taken-as-measured, exported-taken-by-run-alone, exported-salvage-measure-stays, exported-next-frame-as-taken}
-use Rattle.demands.proofs.KeptMeaning.{RefusedInWords}
+use Rattle.demands.specs.KeptMeaning.{RefusedInWords}
 use Rattle.demands.proofs.KeptExamples.{lending}
 use Rattle.demands.proofs.StretchExamples.{p9}
 

@@ -9,9 +9,9 @@ use lib.Dec.{ltb, leb, eqb}
 use lib.ListN.{length, getD, replicate, length-append, length-replicate}
 use lib.Seq.{getD-append-add}
 use borrow.Author.Tests.{ltb-true, ltb-false, leb-true, leb-false, eqb-true, eqb-false, eq-eqb, ne-eqb, le-leb, le-ltb}
-use Rattle.wire.specs.Bytes.{be16, or}
-use Rattle.wire.specs.Laws.{by, pick-by, pick-yes, pick-no, be16-front, be16-behind, true-false}
-use Rattle.wire.specs.Octets.{Octets, octets-none, octets-more, octets-append}
+use Rattle.wire.specs.Bytes.{be16, or, Octets}
+use Rattle.wire.proofs.WireLaws.{by, pick-by, pick-yes, pick-no, be16-front, be16-behind, true-false}
+use Rattle.wire.proofs.OctetLaws.{octets-none, octets-more, octets-append}
 use Rattle.answer.specs.Numbers.{numberOf, notWhole}
 use Rattle.answer.specs.declared.Refused.{Refused}
 use Rattle.dss_head.specs.Heads.{headAt}
@@ -22,8 +22,8 @@ use Rattle.dss_frame.specs.Rules.{chunkUnder}
 use Rattle.dss_frame.specs.declared.Rules.{Rules}
 use Rattle.dss_frame.specs.Segments.{Segment, Walk, whole, short, dead, behind, continuation, first, step, continuations, frameWalk}
 use Rattle.dss_frame.specs.Reading.{Read, frame, refused, absorb, readHead, readWalk, readAt, positionAfter}
-use Rattle.dss_laws.specs.RawLengths.{chunk-last, chunk-alive}
-use Rattle.dss_laws.specs.Continuations.{continuations-step, continuations-last, continuations-full}
+use Rattle.dss_laws.proofs.RawLengths.{chunk-last, chunk-alive}
+use Rattle.dss_laws.proofs.Continuations.{continuations-step, continuations-last, continuations-full}
 use Rattle.demands.specs.Mending.{waits, Mended, StopsWaiting}
 use Rattle.demands.proofs.LongerRuns.{HeadSays, finds, refuses-head, head-says, walk-few}
 use Rattle.demands.proofs.Longer.{On, on-frame, on-refused, absorb-on, head-refuses, same-refused, refusals-stay, dead-stays}

@@ -5,8 +5,7 @@ use native.Mathlib.Omega.{arith}
 use mathlib.Core.Path.{_≡_, refl, sym, ap, _∙_}
 use mathlib.Core.Bool.{true}
 use mathlib.Core.List.{List, [], _∷_, _++_, append-nil}
-use Rattle.wire.specs.Bytes.{pick}
-use Rattle.wire.specs.Octets.{Octets}
+use Rattle.wire.specs.Bytes.{pick, Octets}
 use Rattle.answer.specs.Numbers.{numberOf, notWhole}
 use Rattle.answer.specs.declared.Refusal.the-variants.{Incomplete, DeadContinuation}
 use Rattle.answer.specs.declared.Refused.{Refused}
@@ -14,9 +13,9 @@ use Rattle.dss_frame.specs.declared.Rules.the-variants.{Reader as AsReader}
 use Rattle.dss_frame.specs.Segments.{endOf, dead, frameWalk, continuations, walkFuel}
 use Rattle.dss_frame.specs.Reading.{Read, frame, refused, readAt, positionAfter}
 use Rattle.demands.specs.Demands.{Reader}
-use Rattle.demands.specs.Table.{p2}
+use Rattle.demands.proofs.Table.{p2}
 use Rattle.demands.specs.Mending.{Stand, waits, Mended, StopsWaiting}
-use Rattle.demands.specs.DeadEdges.{fulls, several}
+use Rattle.demands.proofs.DeadEdges.{fulls, several}
 use Rattle.demands.proofs.Longer.{same-refused, frame-refused}
 use Rattle.demands.proofs.LongerExamples.{reply, one-before, one-frame}
 use Rattle.demands.proofs.Mending.{stops-waiting, exactly-dead}

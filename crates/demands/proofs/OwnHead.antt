@@ -6,13 +6,13 @@ use mathlib.Core.List.{List}
 use lib.Dec.{ltb, leb, eqb}
 use lib.ListN.{length, drop}
 use Rattle.wire.specs.Bytes.{be16}
-use Rattle.wire.specs.Laws.{by, pick-yes, pick-no, pick-by}
+use Rattle.wire.proofs.WireLaws.{by, pick-yes, pick-no, pick-by}
 use Rattle.answer.specs.Numbers.{numberOf}
 use Rattle.answer.specs.declared.Refusal.{Refusal}
 use Rattle.answer.specs.declared.Refusal.the-variants.{Incomplete, LengthTooShort, OutOfBounds}
 use Rattle.answer.specs.declared.Refused.{Refused}
 use Rattle.dss_head.specs.Heads.{headAt}
-use Rattle.dss_head.specs.HeadLaws.{movedTo, head-placed}
+use Rattle.dss_head.proofs.HeadLaws.{movedTo, head-placed}
 use Rattle.dss_head.specs.declared.DssType.{DssType}
 use Rattle.dss_head.specs.declared.DssHeader.{DssHeader}
 use Rattle.dss_head.specs.declared.HeadFound.{HeadFound}
@@ -22,7 +22,7 @@ use Rattle.dss_frame.specs.Segments.{Segment, Walk, whole, short, dead, payload
 use Rattle.dss_frame.specs.Reading.{Look, finished, absorbs, refuses, look, lookAt, follows, ownObject, startsExtended, Read, frame, refused, behindFrame, absorbFuel, absorb, readHead, readWalk, readAt, positionLeft}
 use Rattle.dss_measure.specs.declared.Measured.the-variants.{Refused as Refuses}
 use Rattle.dss_measure.specs.Measure.{measuredAt}
-use Rattle.dss_row.specs.Measures.{measured-not}
+use Rattle.dss_measure.proofs.Measures.{measured-not}
 
 -- a refusal leaves the position at p
 abbrev Stays : ℕ → Read → Type 0

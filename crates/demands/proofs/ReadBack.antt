@@ -10,10 +10,10 @@ use Rattle.dss_frame.specs.declared.Rules.the-variants.{Reader, Salvage}
 use Rattle.dss_frame.specs.Reading.{readAt, readWalk}
 use Rattle.dss_frame.specs.Written.{Sent, written}
 use Rattle.demands.specs.Demands.{Sendable, ComesBack, ReadsBack, ReadsEverySize, NotWhole}
-use Rattle.wire.specs.Laws.{pick-yes}
-use Rattle.dss_laws.specs.Looks.{look-nothing}
-use Rattle.dss_laws.specs.Framed.{segments-end, framed-short}
-use Rattle.dss_laws.specs.Writing.{framed-written}
+use Rattle.wire.proofs.WireLaws.{pick-yes}
+use Rattle.dss_laws.proofs.Looking.{look-nothing}
+use Rattle.dss_laws.proofs.Framed.{segments-end, framed-short}
+use Rattle.dss_laws.proofs.WritingLaws.{framed-written}
 use Rattle.demands.proofs.WrittenFrames.{SizeRead, sentAt, read-written, gives-written}
 
 alone : (f : Sent) → drop 0 (written f) ≡ written f ++ []

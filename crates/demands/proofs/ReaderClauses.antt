@@ -19,8 +19,10 @@ use Rattle.dss_reader.specs.Reader.{standsAt, ReadAllFrames}
 use Rattle.dss_reader.specs.declared.DssReader.{DssReader}
 use Rattle.dss_reader.specs.declared.FramesRead.{FramesRead}
 use Rattle.dss_reader.proofs.DssReader.read_all_frames as read-all-frames
-use Rattle.demands.specs.AllFrames.{AllAlone, joined}
-use Rattle.demands.proofs.ReaderKeeps.{payloads, AllBack, frames-back}
+use Rattle.demands.specs.AllFrames.{AllAlone}
+use Rattle.wire.specs.Bytes.{joined}
+use Rattle.demands.specs.KeptLists.{payloads, AllBack}
+use Rattle.demands.proofs.ReaderKeeps.{frames-back}
 
 -- on a run of written frames that stand by themselves, with enough room and row, from the first byte on
 pub read-all-frames-back : {M : Type 1} (𝓤 : URA M) (H : Heap 𝓤) (A : Atoms 𝓤) (mem : Memory → SProp 𝓤) (routines : Routine → Fun 𝓤) (κs : Lfts 3) (reader : DssReader) (run room : RefT (List ℕ)) (row : RefT (List DssFrame)) (r : FramesRead) (roomAfter : List ℕ) (rowAfter : List DssFrame)

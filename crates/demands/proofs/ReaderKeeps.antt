@@ -9,17 +9,17 @@ use lib.ListN.{length}
 use borrow.Author.Tests.{le-leb}
 use contract.Lifetimes.{Lfts}
 use denote.Ref.{RefT, at-last}
-use Rattle.wire.specs.Bytes.{splice, laid}
-use Rattle.wire.specs.Laws.{pick-yes, and-both}
-use Rattle.wire.specs.Splice.{laid-fits}
+use Rattle.wire.specs.Bytes.{splice, laid, joined}
+use Rattle.wire.proofs.WireLaws.{pick-yes, and-both}
+use Rattle.wire.proofs.Splicing.{laid-fits}
 use Rattle.answer.specs.declared.Refusal.the-variants.{Incomplete}
 use Rattle.dss_frame.specs.Segments.{payloadOf}
 use Rattle.dss_frame.specs.Reading.{Frame}
-use Rattle.dss_frame.specs.Records.{recordOf, recordsOf, payloadsOf}
+use Rattle.dss_frame.specs.FrameRecords.{frameRecord, payloadsOf}
 use Rattle.dss_frame.specs.Written.{Sent, written}
 use Rattle.dss_frame.specs.declared.DssFrame.{DssFrame}
 use Rattle.dss_take.specs.Take.{roomRead}
-use Rattle.dss_reader.specs.Reader.{standsAt, given, NextFrame, framesFit, givenAll, roomAll, rowAll, ReadAllFrames}
+use Rattle.dss_reader.specs.Reader.{standsAt, givenFrame, NextFrame, framesFit, givenFrames, roomAll, rowAll, ReadAllFrames}
 use Rattle.dss_reader.specs.declared.DssReader.{DssReader}
 use Rattle.dss_reader.specs.declared.FrameRead.{FrameRead}
 use Rattle.dss_reader.specs.declared.FrameRead.the-variants.{Frame as Hands, Refused as NotRead}
@@ -27,16 +27,17 @@ use Rattle.dss_reader.specs.declared.FramesRead.{FramesRead}
 use Rattle.dss_reader.specs.declared.FramesRead.the-variants.{Frames}
 use Rattle.dss_reader.proofs.DssReader.next_frame.Reads as next-frame
 use Rattle.demands.specs.Demands.{Sendable, Unreadable, Gives}
-use Rattle.demands.specs.AllFrames.{AllAlone, AllGive, joined}
+use Rattle.demands.specs.AllFrames.{AllAlone, AllGive}
 use Rattle.demands.proofs.ReadBack.{reads-back, not-whole}
 use Rattle.demands.proofs.AllFramesBack.{reads-all}
+use Rattle.demands.specs.KeptLists.{AllBack, payloads}
 
 -- ---- one frame
 
 -- the frame comes back, its payload at the room's start, the rest of the room as it was, and the run wholly consumed
 pub record Back (f : Sent) (room : List ℕ) (r : FrameRead) (after : List ℕ) : Type 0 where
   pub read : Frame
-  pub is : r ≡ Hands (recordOf (written f) 0 0 read) (standsAt (length (written f)))
+  pub is : r ≡ Hands (frameRecord (written f) 0 0 read) (standsAt (length (written f)))
   pub gives : Gives f (written f) read
   pub room-is : after ≡ splice room 0 (f .payload)
 
@@ -51,9 +52,9 @@ frame-back f v u room h r after p =
       read = g;
       is =
           p .answers
-          ∙ ap (given (written f) 0 (length room)) (b .is)
+          ∙ ap (givenFrame (written f) 0 (length room)) (b .is)
           ∙ pick-yes _ _ (le-leb (length (payloadOf (written f) (g .segments))) (length room) fits)
-          ∙ ap (λ (n : ℕ). Hands (recordOf (written f) 0 0 g) (standsAt n)) (b .consumed);
+          ∙ ap (λ (n : ℕ). Hands (frameRecord (written f) 0 0 g) (standsAt n)) (b .consumed);
       gives = b .gives;
       room-is =
           p .room-is
@@ -66,16 +67,11 @@ frame-back f v u room h r after p =
 pub frame-not-whole : (f : Sent) → Sendable f → Unreadable f → (room : List ℕ) (r : FrameRead) (after : List ℕ)
     → NextFrame (written f) 0 room r after → (r ≡ NotRead (record { why = Incomplete; place = 0 }) (standsAt 0)) × (after ≡ room)
 frame-not-whole f v u room r after p = (
-  p .answers ∙ ap (given (written f) 0 (length room)) (not-whole f v u),
+  p .answers ∙ ap (givenFrame (written f) 0 (length room)) (not-whole f v u),
   p .room-is ∙ ap (roomRead (written f) room) (not-whole f v u),
 )
 
 -- ---- a run of them
-
--- the payloads that were sent, end to end
-unfoldable pub payloads : List Sent → List ℕ
-payloads [] = []
-payloads (f ∷ fs) = f .payload ++ payloads fs
 
 pub given-payloads : (s : List ℕ) (fs : List Sent) (gs : List Frame) → AllGive s fs gs → (payloadsOf s gs ≡ payloads fs) × (length gs ≡ length fs)
 unfolding AllGive payloads payloadsOf
@@ -85,14 +81,6 @@ given-payloads s (f ∷ fs) [] a = absurd a
 given-payloads s (f ∷ fs) (g ∷ gs) a =
     let b = given-payloads s fs gs (a .1) in
     (ap₂ (λ (x y : List ℕ). x ++ y) (a .0 .payload) (b .0), ap suc (b .1))
-
--- every frame comes back, in order: records in the row, payloads end to end at the room's start, all else as it was
-pub record AllBack (fs : List Sent) (room : List ℕ) (row : List DssFrame) (r : FramesRead) (roomAfter : List ℕ) (rowAfter : List DssFrame) : Type 0 where
-  pub read : List Frame
-  pub is : r ≡ Frames (length fs) (length (payloads fs)) (standsAt (length (joined written fs)))
-  pub gives : AllGive (joined written fs) fs read
-  pub room-is : roomAfter ≡ splice room 0 (payloads fs)
-  pub row-is : rowAfter ≡ splice row 0 (recordsOf (joined written fs) 0 0 read)
 
 pub frames-back : (fs : List Sent) → AllAlone fs → (room : List ℕ) (row : List DssFrame) → length (payloads fs) ≤ length room → length fs ≤ length row
     → (r : FramesRead) (roomAfter : List ℕ) (rowAfter : List DssFrame)
@@ -108,7 +96,7 @@ frames-back fs a room row h k r roomAfter rowAfter p =
       read = gs;
       is =
           p .answers
-          ∙ ap (givenAll s 0 (length room) (length row)) (b .is)
+          ∙ ap (givenFrames s 0 (length room) (length row)) (b .is)
           ∙ pick-yes _ _ fit
           ∙ ap₂ (λ (n m : ℕ). Frames n m (standsAt (length s))) (e .1) (ap length (e .0));
       gives = b .gives;

@@ -15,13 +15,14 @@ use contract.Lifetimes.{Lfts}
 use contract.Monad.{Fun, fact, fact-mono}
 use denote.Ref.{RefT, at-last}
 use Rattle.wire.specs.Bytes.{splice}
-use Rattle.wire.specs.Laws.{picked, pick-yes, pick-no}
+use Rattle.wire.proofs.WireLaws.{picked, pick-yes, pick-no}
 use Rattle.answer.specs.Numbers.{numberOf}
 use Rattle.answer.specs.Rooms.{noRoom}
 use Rattle.answer.specs.declared.Refused.{Refused}
 use Rattle.dss_frame.specs.Salvage.{Entry, salvaged}
 use Rattle.dss_frame.specs.Written.{written}
-use Rattle.dss_salvage.specs.SalvageCall.{salvagedBytes, salvagedRow, entriesFit, Salvages}
+use Rattle.dss_salvage.specs.SalvageEntries.{salvagedBytes, salvagedRow}
+use Rattle.dss_salvage_call.specs.SalvageCall.{entriesFit, SalvagesRun}
 use Rattle.dss_salvage.specs.declared.SalvageEntry.{SalvageEntry}
 use Rattle.dss_salvage.specs.declared.Salvaged.{Salvaged}
 use Rattle.dss_salvage.specs.declared.Salvaged.the-variants.{Done, Refused as NotSalvaged}
@@ -30,7 +31,8 @@ use Rattle.demands.specs.Demands.{Item, run, Covered}
 use Rattle.demands.specs.Stretches.{EntriesStood}
 use Rattle.demands.proofs.Covering.{covers}
 use Rattle.demands.proofs.StretchCalls.{entries-listed}
-use Rattle.demands.proofs.SalvageKeeps.{allBytes, Recovered, recovers}
+use Rattle.demands.specs.KeptLists.{allBytes, Recovered}
+use Rattle.demands.proofs.SalvageKeeps.{recovers}
 
 -- ---- of every run
 
@@ -47,7 +49,7 @@ pub record Listed (s room : List ℕ) (row : List SalvageEntry) (count bytes tai
   pub stood : EntriesStood s roomAfter 0 tail (take count rowAfter)
 
 pub lists : (s room : List ℕ) (row : List SalvageEntry) (count bytes tail : ℕ) (roomAfter : List ℕ) (rowAfter : List SalvageEntry)
-    → Salvages s room row (Done count bytes tail) roomAfter rowAfter → Listed s room row count bytes tail roomAfter rowAfter
+    → SalvagesRun s room row (Done count bytes tail) roomAfter rowAfter → Listed s room row count bytes tail roomAfter rowAfter
 lists s room row count bytes tail roomAfter rowAfter p =
     let es : List Entry = salvaged s .entries in
     picked (entriesFit s es (length room) (length row)) (sym (p .answers))
@@ -66,7 +68,7 @@ lists s room row count bytes tail roomAfter rowAfter p =
 
 -- "the one refusal of the call is 9", and it leaves room and row as they were
 pub refuses : (s room : List ℕ) (row : List SalvageEntry) (r : Refused) (roomAfter : List ℕ) (rowAfter : List SalvageEntry)
-    → Salvages s room row (NotSalvaged r) roomAfter rowAfter → (numberOf (r .why) ≡ 9) × (r .place ≡ 0) × (roomAfter ≡ room) × (rowAfter ≡ row)
+    → SalvagesRun s room row (NotSalvaged r) roomAfter rowAfter → (numberOf (r .why) ≡ 9) × (r .place ≡ 0) × (roomAfter ≡ room) × (rowAfter ≡ row)
 refuses s room row r roomAfter rowAfter p =
     let es : List Entry = salvaged s .entries in
     picked (entriesFit s es (length room) (length row)) (sym (p .answers))
@@ -84,7 +86,7 @@ module _ {M : Type 1} (𝓤 : URA M) (H : Heap 𝓤) (A : Atoms 𝓤) (mem : Mem
   pub salvage-recovers : (items : List (Item written)) → s .now ≡ run items → length (allBytes items) ≤ length (room .now) → length items ≤ length (row .now) → (r : Salvaged)
       → ent 𝓤 (Ensured r) (fact 𝓤 (Recovered items (room .now) (row .now) r roomAfter rowAfter))
   salvage-recovers items e h k r =
-      fact-mono 𝓤 _ _ (λ p. recovers items (room .now) (row .now) h k r roomAfter rowAfter (subst (λ (b : List ℕ). Salvages b (room .now) (row .now) r roomAfter rowAfter) e p))
+      fact-mono 𝓤 _ _ (λ p. recovers items (room .now) (row .now) h k r roomAfter rowAfter (subst (λ (b : List ℕ). SalvagesRun b (room .now) (row .now) r roomAfter rowAfter) e p))
 
   -- Every run.
   pub salvage-lists : (count bytes tail : ℕ)

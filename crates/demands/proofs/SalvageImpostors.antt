@@ -7,13 +7,13 @@ use mathlib.Core.Logic.{inl}
 use mathlib.Core.Bool.{Bool, true, false}
 use mathlib.Core.List.{List, [], _∷_}
 use lib.ListN.{length, take}
-use Rattle.wire.specs.Laws.{true-false}
+use Rattle.wire.proofs.WireLaws.{true-false}
 use Rattle.dss_head.specs.declared.DssType.the-variants.{Request, Object}
 use Rattle.dss_frame.specs.Segments.{payloadOf, endOf, frameWalk, continuations, walkFuel}
 use Rattle.dss_frame.specs.Reading.{Read, frame, refused, readAt, absorb, absorbFuel, look}
 use Rattle.dss_frame.specs.Salvage.{Entry, Salvaged, salvaged, salvageFuel}
 use Rattle.dss_frame.specs.Written.{Sent, written, chunks, chunksFuel}
-use Rattle.demands.specs.Demands.{Writer, Salvager, Item, good, spoilt, bytesOf, run, DueRead, AllDue, Salvages}
+use Rattle.demands.specs.Demands.{Writer, Salvager, Item, good, spoilt, itemBytes, run, DueRead, AllDue, Salvages}
 use Rattle.demands.proofs.Salvaging.{salvages}
 use Rattle.demands.proofs.ExampleRun.{three, three-salvaged}
 
@@ -59,7 +59,7 @@ all-same s p (i ∷ is) (d ∷ ds) (e ∷ es) a b = (
   a .0 .at ∙ sym (b .0 .at),
   a .0 .end ∙ sym (b .0 .end),
   due-same s p i (d .read) (e .read) (a .0 .read) (b .0 .read),
-  all-same s (p + length (bytesOf i)) is ds es (a .1) (b .1),
+  all-same s (p + length (itemBytes i)) is ds es (a .1) (b .1),
 )
 
 -- no salvage that hands out anything else of a run, be it a frame invented behind the first one, is left

@@ -8,29 +8,22 @@ use mathlib.Core.List.{List, [], _∷_, _++_}
 use lib.ListN.{length}
 use borrow.Author.Tests.{le-leb}
 use Rattle.wire.specs.Bytes.{splice}
-use Rattle.wire.specs.Laws.{pick-yes, and-both}
+use Rattle.wire.proofs.WireLaws.{pick-yes, and-both}
 use Rattle.dss_frame.specs.Reading.{Read, frame, refused}
 use Rattle.dss_frame.specs.Salvage.{Entry, salvaged}
 use Rattle.dss_frame.specs.Written.{written}
-use Rattle.dss_salvage.specs.SalvageCall.{bytesOf, salvagedBytes, salvagedRow, entriesFit, given, Salvages}
+use Rattle.dss_frame.specs.FrameRecords.{readBytes}
+use Rattle.dss_salvage.specs.SalvageEntries.{salvagedBytes}
+use Rattle.dss_salvage_call.specs.SalvageCall.{entriesFit, SalvagesRun}
 use Rattle.dss_salvage.specs.declared.SalvageEntry.{SalvageEntry}
 use Rattle.dss_salvage.specs.declared.Salvaged.{Salvaged}
 use Rattle.dss_salvage.specs.declared.Salvaged.the-variants.{Done}
 use Rattle.demands.specs.Demands.{Item, good, spoilt, run, DueRead, AllDue}
 use Rattle.demands.specs.Demands
 use Rattle.demands.proofs.Salvaging.{salvages}
+use Rattle.demands.specs.KeptLists.{Recovered, allBytes, dueBytes}
 
--- the payload that is due of an item: a good frame's, and of a spoilt one none
-abbrev pub dueBytes : Item written → List ℕ
-dueBytes (good f _ _) = f .payload
-dueBytes (spoilt f _ _ b _) = []
-
--- of all, end to end
-unfoldable pub allBytes : List (Item written) → List ℕ
-allBytes [] = []
-allBytes (i ∷ is) = dueBytes i ++ allBytes is
-
-pub due-bytes : (s : List ℕ) (p : ℕ) (i : Item written) (x : Read) → DueRead s p i x → bytesOf s x ≡ dueBytes i
+pub due-bytes : (s : List ℕ) (p : ℕ) (i : Item written) (x : Read) → DueRead s p i x → readBytes s x ≡ dueBytes i
 due-bytes s p (good f _ _) (frame g) d = d .payload
 due-bytes s p (good f _ _) (refused r) d = absurd d
 due-bytes s p (spoilt f _ _ b x) (frame g) d = absurd d
@@ -42,21 +35,12 @@ all-bytes s p [] [] d = (refl, refl)
 all-bytes s p [] (e ∷ es) d = absurd d
 all-bytes s p (i ∷ is) [] d = absurd d
 all-bytes s p (i ∷ is) (e ∷ es) d =
-    let b = all-bytes s (p + length (Demands.bytesOf i)) is es (d .1) in
+    let b = all-bytes s (p + length (Demands.itemBytes i)) is es (d .1) in
     (ap₂ (λ (x y : List ℕ). x ++ y) (due-bytes s p i (e .read) (d .0 .read)) (b .0), ap suc (b .1))
-
--- the call answers 0 with one entry for each item, exactly as is due, the payloads of the good ones end to end at the room's
--- start, the tail at the run's end, and all else as it was
-pub record Recovered (items : List (Item written)) (room : List ℕ) (row : List SalvageEntry) (r : Salvaged) (roomAfter : List ℕ) (rowAfter : List SalvageEntry) : Type 0 where
-  pub entries : List Entry
-  pub due : AllDue (run items) 0 items entries
-  pub is : r ≡ Done (length items) (length (allBytes items)) (length (run items))
-  pub room-is : roomAfter ≡ splice room 0 (allBytes items)
-  pub row-is : rowAfter ≡ splice row 0 (salvagedRow (run items) 0 entries)
 
 pub recovers : (items : List (Item written)) (room : List ℕ) (row : List SalvageEntry) → length (allBytes items) ≤ length room → length items ≤ length row
     → (r : Salvaged) (roomAfter : List ℕ) (rowAfter : List SalvageEntry)
-    → Salvages (run items) room row r roomAfter rowAfter → Recovered items room row r roomAfter rowAfter
+    → SalvagesRun (run items) room row r roomAfter rowAfter → Recovered items room row r roomAfter rowAfter
 recovers items room row h k r roomAfter rowAfter p =
     let s : List ℕ = run items in
     let x = salvaged s in
@@ -79,7 +63,7 @@ recovers items room row h k r roomAfter rowAfter p =
 -- so in numbers, where the numbers of the items are known
 pub answered : (items : List (Item written)) (count bytes long : ℕ) → (length items ≡ count) × (length (allBytes items) ≡ bytes) × (length (run items) ≡ long)
     → (room : List ℕ) (row : List SalvageEntry) → bytes ≤ length room → count ≤ length row → (r : Salvaged) (roomAfter : List ℕ) (rowAfter : List SalvageEntry)
-    → Salvages (run items) room row r roomAfter rowAfter → r ≡ Done count bytes long
+    → SalvagesRun (run items) room row r roomAfter rowAfter → r ≡ Done count bytes long
 answered items count bytes long e room row h k r roomAfter rowAfter p =
     recovers items room row (omega (arith, e)) (omega (arith, e)) r roomAfter rowAfter p .is
     ∙ ap₂ (λ (n m : ℕ). Done n m (length (run items))) (e .0) (e .1)

@@ -10,14 +10,14 @@ use Rattle.dss_frame.specs.Reading.{frame, refused}
 use Rattle.dss_frame.specs.Salvage.{Salvaged, entry, salvaged}
 use Rattle.dss_frame.specs.Written.{Sent, written}
 use Rattle.demands.specs.Demands.{Sendable, Spoilt, Item, good, spoilt, run, AllDue, Salvages}
-use Rattle.wire.specs.Places.{here-first, here-next}
-use Rattle.dss_laws.specs.Framed.{Framed, segmentsOf, segments-end, framed-walk}
-use Rattle.dss_laws.specs.Writing.{framed-written}
+use Rattle.wire.proofs.Places.{here-first, here-next}
+use Rattle.dss_laws.proofs.Framed.{Framed, segmentsOf, segments-end, framed-walk}
+use Rattle.dss_laws.proofs.WritingLaws.{framed-written}
 use Rattle.demands.proofs.WrittenFrames.{Closed, sentAt, read-written, read-refused, gives-written, framed-six, framed-raw}
-use Rattle.dss_laws.specs.Looks.{look-nothing}
+use Rattle.dss_laws.proofs.Looking.{look-nothing}
 use Rattle.demands.proofs.Standing.{closed-refused, closed-stands}
 use Rattle.demands.proofs.SpoiltFrames.{framed-spoilt, head-spoilt}
-use Rattle.dss_laws.specs.Salvaging.{salvagedFrom, salvaged-from, salvaged-end, salvaged-frame, salvaged-refused}
+use Rattle.dss_laws.proofs.SalvageLaws.{salvagedFrom, salvaged-from, salvaged-end, salvaged-frame, salvaged-refused}
 
 -- what follows an item closes it: the next one, or the end
 closed-next : (is : List (Item written)) (s : List ℕ) (q : ℕ) → drop q s ≡ run is → q + length (run is) ≡ length s → Closed Salvage s q

@@ -8,7 +8,8 @@ use mathlib.Core.Logic.{inl, inr}
 use mathlib.Core.Bool.{Bool, true, false}
 use mathlib.Core.List.{List, [], _∷_, _++_}
 use lib.ListN.{length, getD, replicate, length-replicate, List·getD-eq-default}
-use Rattle.wire.specs.Octets.{octets-tested}
+use Rattle.dss_salvage_call.specs.SalvageCall.{SalvagesRun}
+use Rattle.wire.proofs.OctetLaws.{octets-tested}
 use Rattle.answer.specs.declared.Refusal.the-variants.{InvalidMagic}
 use Rattle.dss_head.specs.declared.DssType.{DssType}
 use Rattle.dss_head.specs.declared.DssType.the-variants.{Reply, Object}
@@ -16,13 +17,13 @@ use Rattle.dss_frame.specs.Segments.{payloadOf, endOf, frameWalk, continuations
 use Rattle.dss_frame.specs.Reading.{frame, refused, readAt, absorb, absorbFuel, look}
 use Rattle.dss_frame.specs.Salvage.{salvaged, salvageFuel}
 use Rattle.dss_frame.specs.Written.{Sent, written, chunks, chunksFuel}
-use Rattle.dss_salvage.specs.SalvageCall as call
 use Rattle.dss_salvage.specs.declared.SalvageEntry.{SalvageEntry}
 use Rattle.dss_salvage.specs.declared.Salvaged.{Salvaged}
 use Rattle.dss_salvage.specs.declared.Salvaged.the-variants.{Done}
 use Rattle.demands.specs.Demands.{Sendable, Spoilt, LengthField, Item, good, spoilt, run, AllDue}
 use Rattle.demands.proofs.Salvaging.{salvages}
-use Rattle.demands.proofs.SalvageKeeps.{allBytes, answered}
+use Rattle.demands.specs.KeptLists.{allBytes}
+use Rattle.demands.proofs.SalvageKeeps.{answered}
 
 -- a frame of so many bytes of payload, all alike
 unfoldable pub sized : DssType → Bool → ℕ → Sent
@@ -132,5 +133,5 @@ sizes = (refl, refl, refl)
 
 -- with a room of 32,763 bytes and a row of three, whatever its contract allows answers 0
 pub several-answered : (room : List ℕ) (row : List SalvageEntry) → 32763 ≤ length room → 3 ≤ length row → (r : Salvaged) (roomAfter : List ℕ) (rowAfter : List SalvageEntry)
-    → call.Salvages (run several) room row r roomAfter rowAfter → r ≡ Done 3 32763 65547
+    → SalvagesRun (run several) room row r roomAfter rowAfter → r ≡ Done 3 32763 65547
 several-answered = answered several 3 32763 65547 sizes

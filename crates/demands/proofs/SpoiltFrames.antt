@@ -8,19 +8,19 @@ use lib.Dec.{eqb}
 use lib.ListN.{length, getD, drop}
 use borrow.Author.Tests.{eqb-true, eqb-false}
 use Rattle.wire.specs.Bytes.{be16}
-use Rattle.wire.specs.Laws.{by, be16-same}
+use Rattle.wire.proofs.WireLaws.{by, be16-same}
 use Rattle.answer.specs.declared.Refused.{Refused}
 use Rattle.dss_head.specs.Heads.{headAt, headWith}
-use Rattle.dss_head.specs.Types.{type-none}
+use Rattle.dss_head.proofs.TypeLaws.{type-none}
 use Rattle.dss_head.specs.declared.HeadFound.the-variants.{Refused as Refuses}
 use Rattle.dss_frame.specs.Written.{Sent, written}
-use Rattle.dss_measure.specs.Glance.{headed}
+use Rattle.dss_measure.proofs.GlanceLaws.{headed}
 use Rattle.demands.specs.Demands.{Spoilt, LengthField}
 use Rattle.demands.specs.NoReply.{SpoiltHead, RefusesSpoilt}
-use Rattle.dss_laws.specs.Framed.{Framed, single, several}
-use Rattle.dss_laws.specs.Writing.{framed-written}
-use Rattle.dss_head.specs.HeadLaws.{movedTo, found-refused, head-magic, head-typed}
-use Rattle.dss_laws.specs.HeadLaws.{head-moved}
+use Rattle.dss_laws.proofs.Framed.{Framed, single, several}
+use Rattle.dss_laws.proofs.WritingLaws.{framed-written}
+use Rattle.dss_head.proofs.HeadLaws.{movedTo, found-refused, head-magic, head-typed}
+use Rattle.dss_laws.proofs.HeadFields.{head-moved}
 use Rattle.demands.proofs.WrittenFrames.{framed-six}
 
 kept-two : (f : Sent) (b : List ℕ) → Spoilt written f b → (k : ℕ) → LengthField f k → LengthField f (k + 1) → be16 b k ≡ be16 (written f) k

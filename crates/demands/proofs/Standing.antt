@@ -19,14 +19,14 @@ use Rattle.dss_frame.specs.declared.Rules.{Rules}
 use Rattle.dss_frame.specs.declared.Rules.the-variants.{Salvage}
 use Rattle.dss_frame.specs.Reading.{finished, look, lookAt, follows, ownObject}
 use Rattle.dss_frame.specs.Written.{Sent, headOf, written}
-use Rattle.ddm_builder.specs.Forms.{built-inline}
+use Rattle.ddm_builder.proofs.BuiltForms.{built-inline}
 use Rattle.demands.specs.Demands.{Sendable, StartsObject, Stands}
-use Rattle.wire.specs.Laws.{pick-by, and-both, true-false}
-use Rattle.wire.specs.Places.{here-two, here-first}
-use Rattle.dss_laws.specs.Framed.{Framed, single, several}
-use Rattle.dss_laws.specs.Writing.{framed-written, written-single}
-use Rattle.dss_head.specs.HeadLaws.{movedTo}
-use Rattle.dss_laws.specs.HeadLaws.{head-moved, head-written}
+use Rattle.wire.proofs.WireLaws.{pick-by, and-both, true-false}
+use Rattle.wire.proofs.Places.{here-two, here-first}
+use Rattle.dss_laws.proofs.Framed.{Framed, single, several}
+use Rattle.dss_laws.proofs.WritingLaws.{framed-written, written-single}
+use Rattle.dss_head.proofs.HeadLaws.{movedTo}
+use Rattle.dss_laws.proofs.HeadFields.{head-moved, head-written}
 use Rattle.demands.proofs.WrittenFrames.{Closed, framed-six}
 
 -- a head that is refused, under salvage's rules

@@ -8,38 +8,37 @@ use lib.ListN.{length, getD, take, drop}
 use lib.Seq.{getD-take}
 use borrow.Author.Tests.{leb-true}
 use Rattle.wire.specs.Bytes.{splice}
-use Rattle.wire.specs.Laws.{by, picked, pick-yes, pick-no}
-use Rattle.wire.specs.Splice.{splice-tail, laid-fits}
+use Rattle.wire.proofs.WireLaws.{by, picked, pick-yes, pick-no}
+use Rattle.wire.proofs.Splicing.{splice-tail, laid-fits}
 use Rattle.answer.specs.declared.Refused.{Refused}
 use Rattle.dss_frame.specs.declared.Rules.the-variants.{Reader}
 use Rattle.dss_frame.specs.declared.DssFrame.{DssFrame}
 use Rattle.dss_frame.specs.Segments.{payloadOf, endOf}
 use Rattle.dss_frame.specs.Reading.{Frame, Read, frame, refused, readAt}
 use Rattle.dss_frame.specs.Frames.{AllRead, frames, refusedAll, allFrames}
-use Rattle.dss_frame.specs.Records.{recordOf, recordsOf, payloadsOf}
+use Rattle.dss_frame.specs.FrameRecords.{frameRecord, frameRecords, payloadsOf}
 use Rattle.dss_frame.specs.Salvage.{salvaged}
 use Rattle.dss_frame.specs.Salvage as reading
-use Rattle.dss_frame.specs.Stretches.{Follow, ComesFrom, Each}
+use Rattle.dss_frame.specs.Following.{Follow, ComesFrom, Each}
 use Rattle.dss_take.specs.Take.{roomRead}
 use Rattle.dss_reader.specs.declared.DssReader.{DssReader}
 use Rattle.dss_reader.specs.declared.FrameRead.{FrameRead}
 use Rattle.dss_reader.specs.declared.FrameRead.the-variants.{Frame as Hands, Refused as NotRead}
 use Rattle.dss_reader.specs.declared.FramesRead.{FramesRead}
 use Rattle.dss_reader.specs.declared.FramesRead.the-variants.{Frames, Refused as NoneRead}
-use Rattle.dss_reader.specs.Reader.{standsAt, given, NextFrame, framesFit, givenAll, roomAll, rowAll, ReadAllFrames}
-use Rattle.dss_salvage.specs.SalvageCall.{startsIn, endsIn, salvagedBytes, salvagedRow, entriesFit, Salvages}
-use Rattle.dss_salvage.specs.SalvageCall as call
+use Rattle.dss_reader.specs.Reader.{standsAt, givenFrame, NextFrame, framesFit, givenFrames, roomAll, rowAll, ReadAllFrames}
+use Rattle.dss_salvage.specs.SalvageEntries.{startsIn, endsIn, salvagedBytes, salvagedRow}
+use Rattle.dss_salvage_call.specs.SalvageCall.{entriesFit, SalvagesRun}
 use Rattle.dss_salvage.specs.declared.Entry.{Entry}
 use Rattle.dss_salvage.specs.declared.Entry.the-variants.{Frame as Framed, Refused as Refuses}
 use Rattle.dss_salvage.specs.declared.SalvageEntry.{SalvageEntry}
 use Rattle.dss_salvage.specs.declared.Salvaged.{Salvaged}
 use Rattle.dss_salvage.specs.declared.Salvaged.the-variants.{Done, Refused as NotSalvaged}
-use Rattle.gateway_words.specs.Words.{refusalWords, Answered}
-use Rattle.gateway_row.specs.RowWords.{frameAt, recordWords, recordLen, places}
-use Rattle.gateway_row.specs.RowWords as row-words
-use Rattle.gateway_row.specs.RecordBack.{numbered, cut, row-says}
+use Rattle.gateway_words.specs.AnswerWords.{refusalWords, Answered}
+use Rattle.gateway_row.specs.RowWords.{frameAt, recordWords, recordLen, places, cut}
+use Rattle.gateway_row.proofs.RecordBack.{numbered, row-says}
 use Rattle.gateway_reader.specs.ReaderWords.{frameWords, ReadsFrame}
-use Rattle.gateway_frames.specs.FramesWords.{framesWords, rowWords, ReadsAllFrames}
+use Rattle.gateway_frames.specs.FramesWords.{framesWords, framesRow, ReadsAllFrames}
 use Rattle.gateway_salvage.specs.SalvageWords.{wordsOf, entryWords, salvagedWords, SalvagesInWords}
 use Rattle.gateway_salvage.proofs.EntryBack.{entry-long}
 use Rattle.demands.specs.Stretches.{Stood, FrameInside, FramesStood, EntryInside, EntriesStood, WordsInside, WordsStood, AnswerStood}
@@ -60,18 +59,18 @@ module _ (s : List ℕ) (p : ℕ) (room : List ℕ) where
   unfolding Follow Each
   next-stood d next after w = of-read (readAt Reader s p) refl (w .answers) (w .room-is)
     where
-      of-read : (r : Read) → readAt Reader s p ≡ r → Hands d next ≡ given s p (length room) r → after ≡ roomRead s room r → FramesStood s after p (next .position) (d ∷ [])
+      of-read : (r : Read) → readAt Reader s p ≡ r → Hands d next ≡ givenFrame s p (length room) r → after ≡ roomRead s room r → FramesStood s after p (next .position) (d ∷ [])
       of-read (refused r) i e k = let z : _≡_ {A = ℕ} 0 1 = cc in absurd (omega arith)
       of-read (frame f) i e k =
           picked (leb (length (payloadOf s (f .segments))) (length room)) (sym e)
           (λ t z. let x : Whole s p f = whole-read s p f i in
-          let same : recordOf s p 0 f ≡ d = cc in
+          let same : frameRecord s p 0 f ≡ d = cc in
           let there : standsAt (endOf p (f .segments)) ≡ next = cc in
           let b : List ℕ = payloadOf s (f .segments) in
           let fits : length b ≤ length room = leb-true _ _ t in
           let laid-down : drop 0 after ≡ b ++ drop (0 + length b) room = k ∙ laid-fits room 0 b (omega arith) ∙ splice-tail room 0 b (omega arith) in
-          let inside : FrameInside s after (recordOf s p 0 f) = payload-stood s after (drop (0 + length b) room) p 0 f (x .comes) laid-down in
-          let whole : FramesStood s after p (endOf p (f .segments)) (recordOf s p 0 f ∷ []) =
+          let inside : FrameInside s after (frameRecord s p 0 f) = payload-stood s after (drop (0 + length b) room) p 0 f (x .comes) laid-down in
+          let whole : FramesStood s after p (endOf p (f .segments)) (frameRecord s p 0 f ∷ []) =
           record { follow = (refl, x .on, refl); inside = x .there; payloads = (inside, tt) } in
           subst (λ (y : DssReader). FramesStood s after p (y .position) (d ∷ [])) there
           (subst (λ (y : DssFrame). FramesStood s after p (endOf p (f .segments)) (y ∷ [])) same whole))
@@ -80,15 +79,15 @@ module _ (s : List ℕ) (p : ℕ) (room : List ℕ) where
   pub answer-stood : (words after answer : List ℕ) → 8 ≤ length words → ReadsFrame s p room words 0 after answer → AnswerStood s p after answer
   answer-stood words after answer h w = of-read (readAt Reader s p) refl (w .answers) (w .room-is)
     where
-      of-read : (r : Read) → readAt Reader s p ≡ r → Answered (frameWords (given s p (length room) r)) words 0 answer → after ≡ roomRead s room r → AnswerStood s p after answer
+      of-read : (r : Read) → readAt Reader s p ≡ r → Answered (frameWords (givenFrame s p (length room) r)) words 0 answer → after ≡ roomRead s room r → AnswerStood s p after answer
       of-read (refused r) i a k = absurd (omega (arith, numbered (r .why), a .number-is))
       of-read (frame f) i a k =
           by (leb (length (payloadOf s (f .segments))) (length room))
           (λ t. let x : Whole s p f = whole-read s p f i in
           let e : ℕ = endOf p (f .segments) in
-          let said : take 8 answer ≡ frameAt e p (recordOf s p 0 f) =
+          let said : take 8 answer ≡ frameAt e p (frameRecord s p 0 f) =
           answer-says refl h (subst (λ (y : FrameRead). Answered (frameWords y) words 0 answer) (pick-yes _ _ t) a) in
-          let word : (n : ℕ) → n < 8 → getD answer n 0 ≡ getD (frameAt e p (recordOf s p 0 f)) n 0 =
+          let word : (n : ℕ) → n < 8 → getD answer n 0 ≡ getD (frameAt e p (frameRecord s p 0 f)) n 0 =
           λ n l. sym (getD-take 8 answer n 0 l) ∙ ap (λ (y : List ℕ). getD y n 0) said in
           let first : getD answer 7 0 ≡ p = word 7 (omega arith) in
           let last : getD answer 1 0 ≡ e = word 1 (omega arith) in
@@ -110,14 +109,14 @@ module _ (s : List ℕ) (p : ℕ) (room : List ℕ) where
       → FramesStood s roomAfter p (reader .position) (take count rowAfter)
   all-stood row count bytes reader roomAfter rowAfter w = of-all (allFrames s p) refl (w .answers) (w .room-is) (w .row-is)
     where
-      of-all : (a : AllRead) → allFrames s p ≡ a → Frames count bytes reader ≡ givenAll s p (length room) (length row) a → roomAfter ≡ roomAll s room (length row) a → rowAfter ≡ rowAll s p (length room) row a
+      of-all : (a : AllRead) → allFrames s p ≡ a → Frames count bytes reader ≡ givenFrames s p (length room) (length row) a → roomAfter ≡ roomAll s room (length row) a → rowAfter ≡ rowAll s p (length room) row a
           → FramesStood s roomAfter p (reader .position) (take count rowAfter)
       of-all (refusedAll r) i e k l = let z : _≡_ {A = ℕ} 0 1 = cc in absurd (omega arith)
       of-all (frames fs q) i e k l =
           picked (framesFit s fs (length room) (length row)) (sym e)
           (λ t z. let c : length fs ≡ count = cc in
           let there : standsAt q ≡ reader = cc in
-          let rs : List DssFrame = recordsOf s p 0 fs in
+          let rs : List DssFrame = frameRecords s p 0 fs in
           let listed : rs ≡ take count rowAfter = sym (ap (take count) (l ∙ pick-yes _ _ t) ∙ row-first row rs count (records-long s p 0 fs ∙ c)) in
           subst (λ (y : DssReader). FramesStood s roomAfter p (y .position) (take count rowAfter)) there
           (subst (FramesStood s roomAfter p q) listed
@@ -128,12 +127,12 @@ module _ (s : List ℕ) (p : ℕ) (room : List ℕ) where
       → WordsStood s room-after p (getD answer 1 0) (cut recordLen (getD answer 2 0) row-after)
   all-words-stood row words room-after row-after answer h w = of-all (allFrames s p) refl (w .answers) (w .room-is) (w .row-is)
     where
-      of-all : (a : AllRead) → allFrames s p ≡ a → Answered (framesWords (givenAll s p (length room) (places row) a)) words 0 answer → room-after ≡ roomAll s room (places row) a → row-after ≡ rowWords s p (length room) row a
+      of-all : (a : AllRead) → allFrames s p ≡ a → Answered (framesWords (givenFrames s p (length room) (places row) a)) words 0 answer → room-after ≡ roomAll s room (places row) a → row-after ≡ framesRow s p (length room) row a
           → WordsStood s room-after p (getD answer 1 0) (cut recordLen (getD answer 2 0) row-after)
       of-all (refusedAll r) i a k l = absurd (omega (arith, numbered (r .why), a .number-is))
       of-all (frames fs q) i a k l =
           by (framesFit s fs (length room) (places row))
-          (λ t. let rs : List DssFrame = recordsOf s p 0 fs in
+          (λ t. let rs : List DssFrame = frameRecords s p 0 fs in
           let said : take 8 answer ≡ 0 ∷ q ∷ length fs ∷ length (payloadsOf s fs) ∷ 0 ∷ 0 ∷ 0 ∷ 0 ∷ [] =
           answer-says refl h (subst (λ (y : FramesRead). Answered (framesWords y) words 0 answer) (pick-yes _ _ t) a) in
           let last : q ≡ getD answer 1 0 = sym (sym (getD-take 8 answer 1 0 (omega arith)) ∙ ap (λ (y : List ℕ). getD y 1 0) said) in

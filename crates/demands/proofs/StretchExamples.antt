@@ -6,27 +6,25 @@ use mathlib.Core.Bool.{true, false}
 use mathlib.Core.List.{List, [], _∷_, map}
 use lib.ListN.{getD, replicate}
 use contract.Lifetimes.{Lfts}
-use Rattle.wire.specs.Bytes.{splice, laid}
+use Rattle.wire.specs.Bytes.{splice, laid, joined}
 use Rattle.answer.specs.declared.Refusal.the-variants.{InvalidMagic}
 use Rattle.dss_head.specs.declared.DssType.the-variants.{Object}
 use Rattle.dss_frame.specs.Segments.{payloadOf, endOf, frameWalk, continuations, walkFuel}
 use Rattle.dss_frame.specs.Reading.{readAt, absorb, absorbFuel, look}
 use Rattle.dss_frame.specs.Frames.{allFrames, framesFuel}
-use Rattle.dss_frame.specs.Records.{payloadsOf, recordsOf}
+use Rattle.dss_frame.specs.FrameRecords.{payloadsOf, frameRecords}
 use Rattle.dss_frame.specs.Salvage.{salvaged, salvageFuel}
-use Rattle.dss_frame.specs.Stretches.{Follow, ComesFrom}
+use Rattle.dss_frame.specs.Following.{Follow, ComesFrom}
 use Rattle.dss_frame.specs.declared.DssFrame.{DssFrame}
-use Rattle.dss_salvage.specs.SalvageCall.{salvagedBytes, salvagedRow}
+use Rattle.dss_salvage.specs.SalvageEntries.{salvagedBytes, salvagedRow}
 use Rattle.dss_salvage.specs.declared.Entry.the-variants.{Frame as Framed, Refused as Refuses}
 use Rattle.dss_salvage.specs.declared.SalvageEntry.{SalvageEntry}
 use Rattle.dss_reader.specs.Reader.{standsAt}
-use Rattle.gateway_row.specs.RowWords.{recordLen}
-use Rattle.gateway_row.specs.RowWords as row-words
-use Rattle.gateway_row.specs.RecordBack.{cut}
-use Rattle.demands.specs.Table.{p8}
+use Rattle.gateway_row.specs.RowWords.{recordLen, cut}
+use Rattle.demands.proofs.Table.{p8}
 use Rattle.demands.specs.Stretches.{FramesStood, EntriesStood, WordsStood, AnswerStood}
 use Rattle.demands.proofs.KeptRequests.{next-read-stood, exported-next-read-stood, exported-all-read-stood, exported-salvage-stood}
-use Rattle.demands.proofs.KeptExamples.{lending, taken}
+use Rattle.demands.proofs.KeptExamples.{lending, takenExample}
 use Rattle.demands.proofs.SalvageClauses.{lists}
 use Rattle.demands.proofs.StretchCalls.{all-stood}
 
@@ -48,7 +46,7 @@ unfolding cut
 p8-stretches = refl
 
 pub p8-salvaged : (κs : Lfts 4) → WordsStood p8 [] 0 6 (cut recordLen 2 p8-row)
-unfolding splice laid salvaged salvageFuel readAt absorb absorbFuel look payloadOf endOf frameWalk continuations walkFuel salvagedBytes salvagedRow row-words.joined
+unfolding splice laid salvaged salvageFuel readAt absorb absorbFuel look payloadOf endOf frameWalk continuations walkFuel salvagedBytes salvagedRow joined
 p8-salvaged κs =
     exported-salvage-stood (lending p8) (lending []) (lending (replicate 8 9)) [] (0 ∷ 0 ∷ 2 ∷ 0 ∷ 6 ∷ 0 ∷ 0 ∷ 0 ∷ []) (omega arith) κs (lending (replicate 21 9)) p8-row
     (record { answers = record { number-is = refl; words-are = refl }; room-is = refl; row-is = refl })
@@ -62,13 +60,13 @@ abbrev p9-room : List ℕ
 p9-room = 0xAA ∷ 0xBB ∷ []
 
 pub p9-salvaged : (κs : Lfts 4) → WordsStood p9 p9-room 0 14 (cut recordLen 1 p9-row)
-unfolding splice laid salvaged salvageFuel readAt absorb absorbFuel look payloadOf endOf frameWalk continuations walkFuel salvagedBytes salvagedRow row-words.joined
+unfolding splice laid salvaged salvageFuel readAt absorb absorbFuel look payloadOf endOf frameWalk continuations walkFuel salvagedBytes salvagedRow joined
 p9-salvaged κs =
     exported-salvage-stood (lending p9) (lending (9 ∷ 9 ∷ [])) (lending (replicate 8 9)) p9-room (0 ∷ 0 ∷ 1 ∷ 2 ∷ 14 ∷ 0 ∷ 0 ∷ 0 ∷ []) (omega arith) κs (lending (replicate 10 9)) p9-row
     (record { answers = record { number-is = refl; words-are = refl }; room-is = refl; row-is = refl })
 
 pub p9-all : (κs : Lfts 4) → WordsStood p9 p9-room 0 14 (cut recordLen 1 p9-row)
-unfolding splice laid allFrames framesFuel readAt absorb absorbFuel look payloadOf endOf frameWalk continuations walkFuel payloadsOf recordsOf row-words.joined
+unfolding splice laid allFrames framesFuel readAt absorb absorbFuel look payloadOf endOf frameWalk continuations walkFuel payloadsOf frameRecords joined
 p9-all κs =
     exported-all-read-stood (lending p9) (lending (9 ∷ 9 ∷ [])) (lending (replicate 8 9)) p9-room (0 ∷ 14 ∷ 1 ∷ 2 ∷ 0 ∷ 0 ∷ 0 ∷ 0 ∷ []) (omega arith) κs (lending (replicate 10 9)) p9-row 0
     (record { answers = record { number-is = refl; words-are = refl }; room-is = refl; row-is = refl })
@@ -97,14 +95,14 @@ p9-handed κs =
 -- ---- the same in rows of structs, which are lent with what they then hold; `taken` is the record of P2, with which P8 begins
 
 abbrev p8-entries : List SalvageEntry
-p8-entries = record { entry = Framed taken } ∷ record { entry = Refuses (record { why = InvalidMagic 0; place = 6 }) 6 6 } ∷ []
+p8-entries = record { entry = Framed takenExample } ∷ record { entry = Refuses (record { why = InvalidMagic 0; place = 6 }) 6 6 } ∷ []
 
 pub p8-listed : EntriesStood p8 [] 0 6 p8-entries
 unfolding splice salvaged salvageFuel readAt absorb absorbFuel look payloadOf endOf frameWalk continuations walkFuel salvagedBytes salvagedRow
 p8-listed = lists p8 [] p8-entries 2 0 6 [] p8-entries (record { answers = refl; room-is = refl; row-is = refl }) .stood
 
 pub p9-listed : FramesStood p9 p9-room 0 14 (p9-frame ∷ [])
-unfolding splice allFrames framesFuel readAt absorb absorbFuel look payloadOf endOf frameWalk continuations walkFuel payloadsOf recordsOf
+unfolding splice allFrames framesFuel readAt absorb absorbFuel look payloadOf endOf frameWalk continuations walkFuel payloadsOf frameRecords
 p9-listed = all-stood p9 0 (9 ∷ 9 ∷ []) (p9-frame ∷ []) 1 2 (standsAt 14) p9-room (p9-frame ∷ []) (record { answers = refl; room-is = refl; row-is = refl })
 
 -- ---- what is ruled out

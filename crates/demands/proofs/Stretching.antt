@@ -10,8 +10,8 @@ use lib.ListN.{length, take, drop}
 use lib.Seq.{take-at}
 use borrow.Author.Tests.{leb-true}
 use Rattle.wire.specs.Bytes.{be16, part, splice}
-use Rattle.wire.specs.Laws.{by, pick-by, pick-no, picked}
-use Rattle.wire.specs.Places.{here-next, here-part}
+use Rattle.wire.proofs.WireLaws.{by, pick-by, pick-no, picked}
+use Rattle.wire.proofs.Places.{here-next, here-part}
 use Rattle.answer.specs.Numbers.{notWhole}
 use Rattle.answer.specs.Rooms.{outOfBounds}
 use Rattle.dss_frame.specs.declared.Rules.the-variants.{Reader, Salvage}
@@ -19,14 +19,14 @@ use Rattle.dss_frame.specs.declared.DssFrame.{DssFrame}
 use Rattle.dss_frame.specs.Segments.{Walk, whole, short, dead, payloadOf, endOf, frameWalk}
 use Rattle.dss_frame.specs.Reading.{Frame, Read, frame, refused, readAt}
 use Rattle.dss_frame.specs.Frames.{AllRead, frames, refusedAll, before, andOn, allFrames}
-use Rattle.dss_frame.specs.Records.{recordOf, recordsOf, payloadsOf}
+use Rattle.dss_frame.specs.FrameRecords.{frameRecord, frameRecords, payloadsOf, readBytes}
 use Rattle.dss_frame.specs.Salvage.{Entry, Salvaged, atWalk, salvageFuel, salvaged}
-use Rattle.dss_frame.specs.Stretches.{Follow, ComesFrom, Each}
-use Rattle.dss_laws.specs.Bounds.{OfFrame, is-frame, is-refused, Past, read-past}
-use Rattle.dss_laws.specs.AllFrames.{frames-step, frames-refused}
-use Rattle.dss_laws.specs.Linked.{read-comes}
-use Rattle.dss_row.specs.RowLaws.{Onward, frames-onward}
-use Rattle.dss_salvage.specs.SalvageCall.{bytesOf, entryAt, startsIn, endsIn, salvagedBytes, salvagedRow}
+use Rattle.dss_frame.specs.Following.{Follow, ComesFrom, Each}
+use Rattle.dss_laws.proofs.Bounds.{OfFrame, is-frame, is-refused, Past, read-past}
+use Rattle.dss_laws.proofs.FramesLaws.{frames-step, frames-refused}
+use Rattle.dss_laws.proofs.Linked.{read-comes}
+use Rattle.dss_row.proofs.FrameRowLaws.{Onward, frames-onward}
+use Rattle.dss_salvage.specs.SalvageEntries.{entryAt, startsIn, endsIn, salvagedBytes, salvagedRow}
 use Rattle.dss_salvage.specs.declared.SalvageEntry.{SalvageEntry}
 use Rattle.demands.specs.Demands.{Gapless, InOrder}
 use Rattle.demands.specs.Stretches.{Stood, FrameInside, FramesStood, EntryInside, EntriesStood}
@@ -94,19 +94,19 @@ whole-read s p f e = of-read (readAt Reader s p) e (read-past Reader s p) (read-
 
 -- a frame's payload in the room
 pub payload-stood : (s room rest : List ℕ) (p a : ℕ) (f : Frame) → ComesFrom s p (endOf p (f .segments)) (payloadOf s (f .segments))
-    → drop a room ≡ payloadOf s (f .segments) ++ rest → FrameInside s room (recordOf s p a f)
+    → drop a room ≡ payloadOf s (f .segments) ++ rest → FrameInside s room (frameRecord s p a f)
 payload-stood s room rest p a f k d =
     subst (ComesFrom s p (endOf p (f .segments))) (sym (here-part room (payloadOf s (f .segments)) rest a (a + length (payloadOf s (f .segments))) d (omega arith))) k
 
 pub frames-stood : (fs : List Frame) (s room rest : List ℕ) (p a q : ℕ) → allFrames s p ≡ frames fs q → drop a room ≡ payloadsOf s fs ++ rest
-    → FramesStood s room p q (recordsOf s p a fs)
-unfolding recordsOf payloadsOf Follow Each
+    → FramesStood s room p q (frameRecords s p a fs)
+unfolding frameRecords payloadsOf Follow Each
 frames-stood [] s room rest p a q e d = let k : (p ≡ q) × (q ≤ length s) = none-left s p q e in record { follow = k .0; inside = k .1; payloads = tt }
 frames-stood (f ∷ fs) s room rest p a q e d =
     let w : Onward s p f fs q = frames-onward s p f fs q e in
     let b : List ℕ = payloadOf s (f .segments) in
     let d₁ : drop a room ≡ b ++ (payloadsOf s fs ++ rest) = d ∙ append-assoc b (payloadsOf s fs) rest in
-    let others : FramesStood s room (endOf p (f .segments)) q (recordsOf s (endOf p (f .segments)) (a + length b) fs) =
+    let others : FramesStood s room (endOf p (f .segments)) q (frameRecords s (endOf p (f .segments)) (a + length b) fs) =
     frames-stood fs s room rest (endOf p (f .segments)) (a + length b) q (w .onward) (here-next room b (payloadsOf s fs ++ rest) a (a + length b) d₁ refl) in
     let x : Whole s p f = whole-read s p f (w .reads) in
     record {
@@ -146,7 +146,7 @@ record One (s room : List ℕ) (p e : ℕ) (x : SalvageEntry) : Type 0 where
   ends : endsIn (x .entry) ≡ e
   payload : EntryInside s room (x .entry)
 
-one-entry : (s room rest : List ℕ) (p e a : ℕ) (r : Read) → SoundRead s p e r → drop a room ≡ bytesOf s r ++ rest → One s room p e (entryAt s a p e r)
+one-entry : (s room rest : List ℕ) (p e a : ℕ) (r : Read) → SoundRead s p e r → drop a room ≡ readBytes s r ++ rest → One s room p e (entryAt s a p e r)
 one-entry s room rest p e a (frame f) k d =
     record { starts = refl; ends = k .0; payload = payload-stood s room rest p a f (subst (λ (n : ℕ). ComesFrom s p n (payloadOf s (f .segments))) (sym (k .0)) (k .1)) d }
 one-entry s room rest p e a (refused r) k d = record { starts = refl; ends = refl; payload = tt }
@@ -156,7 +156,7 @@ entries-stood : (es : List Entry) (s room rest : List ℕ) (p a t : ℕ) → Gap
 unfolding Gapless InOrder Each Follow salvagedBytes salvagedRow
 entries-stood [] s room rest p a t g o k h d = record { follow = g; inside = h; payloads = tt }
 entries-stood (e ∷ es) s room rest p a t g o k h d =
-    let b : List ℕ = bytesOf s (e .read) in
+    let b : List ℕ = readBytes s (e .read) in
     let d₁ : drop a room ≡ b ++ (salvagedBytes s es ++ rest) = d ∙ append-assoc b (salvagedBytes s es) rest in
     let x : SalvageEntry = entryAt s a (e .at) (e .end) (e .read) in
     let w : One s room (e .at) (e .end) x = one-entry s room (salvagedBytes s es ++ rest) (e .at) (e .end) a (e .read) (k .0) d₁ in

@@ -20,13 +20,13 @@ use Rattle.dss_frame.specs.Segments.{payloadOf}
 use Rattle.dss_frame.specs.Reading.{finished, look, frame, refused, Frame, absorb, readHead, readWalk, readAt, startsExtended}
 use Rattle.dss_frame.specs.Written.{Sent, headOf, written}
 use Rattle.demands.specs.Demands.{Sendable, Unreadable, Gives}
-use Rattle.wire.specs.Laws.{pick-yes, pick-no}
-use Rattle.wire.specs.Places.{here-first, here-length}
-use Rattle.dss_laws.specs.Looks.{absorb-finished}
-use Rattle.dss_laws.specs.Framed.{Framed, single, several, WholeUnder, segmentsOf, segments-end, framed-walk}
-use Rattle.dss_laws.specs.Writing.{framed-written, payload-written}
-use Rattle.dss_head.specs.HeadLaws.{movedTo}
-use Rattle.dss_laws.specs.HeadLaws.{head-moved, head-written}
+use Rattle.wire.proofs.WireLaws.{pick-yes, pick-no}
+use Rattle.wire.proofs.Places.{here-first, here-length}
+use Rattle.dss_laws.proofs.Looking.{absorb-finished}
+use Rattle.dss_laws.proofs.Framed.{Framed, single, several, WholeUnder, segmentsOf, segments-end, framed-walk}
+use Rattle.dss_laws.proofs.WritingLaws.{framed-written, payload-written}
+use Rattle.dss_head.proofs.HeadLaws.{movedTo}
+use Rattle.dss_laws.proofs.HeadFields.{head-moved, head-written}
 
 -- nothing that follows at q is absorbed
 abbrev pub Closed : Rules → List ℕ → ℕ → Type 0

@@ -9,18 +9,18 @@ use mathlib.Core.List.{List, _∷_, _++_}
 use lib.ListN.{length, take, drop, length-drop, take-append-drop}
 use lib.Seq.{length-take-le}
 use Rattle.wire.specs.Bytes.{two}
-use Rattle.wire.specs.Laws.{true-false}
+use Rattle.wire.proofs.WireLaws.{true-false}
 use Rattle.dss_head.specs.Heads.{headBytes, typeByte, flagsByte}
-use Rattle.dss_head.specs.Types.{type-range}
+use Rattle.dss_head.proofs.TypeLaws.{type-range}
 use Rattle.dss_head.specs.declared.DssFlags.{DssFlags}
 use Rattle.dss_head.specs.declared.DssHeader.{DssHeader}
 use Rattle.dss_head.specs.declared.DssType.{DssType}
 use Rattle.dss_frame.specs.Written.{Sent, chunks, written}
 use Rattle.layouts.specs.DssLayout.{Structure, Allowed, Continued, ends, goes-on, Dss, one, several, format, rest}
 use Rattle.demands.specs.Demands.{Sendable}
-use Rattle.demands.specs.Layouts.{structureOf, WritesLayout}
-use Rattle.dss_laws.specs.Chunks.{chunks-last, chunks-more}
-use Rattle.dss_laws.specs.Writing.{Cut, cut, cut-of, written-single, written-several}
+use Rattle.demands.specs.DssLayouts.{structureOf, WritesLayout}
+use Rattle.dss_laws.proofs.ChunkLaws.{chunks-last, chunks-more}
+use Rattle.dss_laws.proofs.WritingLaws.{Cut, cut, cut-of, written-single, written-several}
 
 -- ---- what may be asked for
 

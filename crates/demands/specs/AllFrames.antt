@@ -1,12 +1,13 @@
 -- Reading all frames of a run back, as a statement about any writer and any reader of all frames.
 use Prim.Native.Nat.{ℕ}
 use mathlib.Core.Path.{_≡_}
-use mathlib.Core.List.{List, [], _∷_, _++_}
+use mathlib.Core.List.{List, [], _∷_}
 use lib.ListN.{length}
 use Rattle.dss_frame.specs.Reading.{Frame}
 use Rattle.dss_frame.specs.Frames.{AllRead, frames}
 use Rattle.dss_frame.specs.Written.{Sent}
 use Rattle.demands.specs.Demands.{Writer, Sendable, Unreadable, Gives, Stands}
+use Rattle.wire.specs.Bytes.{joined}
 
 -- reads all frames of a run, from a place on
 abbrev pub AllReader : Type 0
@@ -21,11 +22,6 @@ pub record Alone (f : Sent) : Type 0 where
 unfoldable pub AllAlone : List Sent → Type 0
 AllAlone [] = Unit {0}
 AllAlone (f ∷ fs) = Alone f × AllAlone fs
-
--- the run: what is written for each, joined
-unfoldable pub joined : Writer → List Sent → List ℕ
-joined writes [] = []
-joined writes (f ∷ fs) = writes f ++ joined writes fs
 
 -- as many frames as were sent, in order, each saying over the run what its own says
 unfoldable pub AllGive : List ℕ → List Sent → List Frame → Type 0

@@ -95,13 +95,13 @@ pub data Item (writes : Writer) : Type 0 where
   good : (f : Sent) → Sendable f → Stands f → Item writes
   spoilt : (f : Sent) → Sendable f → Stands f → (b : List ℕ) → Spoilt writes f b → Item writes
 
-abbrev pub bytesOf : {writes : Writer} → Item writes → List ℕ
-bytesOf {writes} (good f _ _) = writes f
-bytesOf {writes} (spoilt f _ _ b _) = b
+abbrev pub itemBytes : {writes : Writer} → Item writes → List ℕ
+itemBytes {writes} (good f _ _) = writes f
+itemBytes {writes} (spoilt f _ _ b _) = b
 
 unfoldable pub run : {writes : Writer} → List (Item writes) → List ℕ
 run [] = []
-run (i ∷ is) = bytesOf i ++ run is
+run (i ∷ is) = itemBytes i ++ run is
 
 -- what is read is what is due for an item that starts at a place: the frame exactly as written, or one refusal at its first byte
 abbrev pub DueRead : {writes : Writer} → List ℕ → ℕ → Item writes → Read → Type 0
@@ -113,7 +113,7 @@ DueRead s p (spoilt f _ _ b x) (refused r) = (r .place ≡ p) × (r .why ≡ x .
 -- an entry is what is due for such an item: it stands at the item's bytes, and reads what is due
 pub record Due {writes : Writer} (s : List ℕ) (p : ℕ) (i : Item writes) (e : Entry) : Type 0 where
   pub at : e .at ≡ p
-  pub end : e .end ≡ p + length (bytesOf i)
+  pub end : e .end ≡ p + length (itemBytes i)
   pub read : DueRead s p i (e .read)
 
 -- "every other frame, in order and exactly as written, and one refusal at the first byte of each spoilt frame, and nothing else"
@@ -121,7 +121,7 @@ unfoldable pub AllDue : {writes : Writer} → List ℕ → ℕ → List (Item wr
 AllDue s p [] [] = Unit {0}
 AllDue s p [] (e ∷ es) = ⊥
 AllDue s p (i ∷ is) [] = ⊥
-AllDue s p (i ∷ is) (e ∷ es) = Due s p i e × AllDue s (p + length (bytesOf i)) is es
+AllDue s p (i ∷ is) (e ∷ es) = Due s p i e × AllDue s (p + length (itemBytes i)) is es
 
 -- entries follow each other without gap or overlap, from a place to another
 unfoldable pub Gapless : ℕ → List Entry → ℕ → Type 0

@@ -1,7 +1,4 @@
 pub mod Demands
-pub mod Layouts
-pub mod Table
-pub mod Edges
 pub mod AllFrames
 pub mod FourTypes
 pub mod NoReply
@@ -10,5 +7,7 @@ pub mod Longer
 pub mod Mending
 pub mod Stretches
 pub mod MeasureTake
-pub mod DeadEdges
-pub mod Limits
+pub mod DssLayouts
+pub mod KeptMeaning
+pub mod KeptLists
+pub mod KeptCalls

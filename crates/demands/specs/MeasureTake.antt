@@ -14,7 +14,7 @@ use Rattle.dss_frame.specs.declared.Rules.the-variants.{Salvage}
 use Rattle.dss_measure.specs.declared.FrameMeasure.{FrameMeasure}
 use Rattle.dss_measure.specs.declared.Measured.{Measured}
 use Rattle.dss_measure.specs.declared.Measured.the-variants.{Frame as Gives, Refused as Refuses}
-use Rattle.gateway_words.specs.Words.{refusalWords}
+use Rattle.gateway_words.specs.AnswerWords.{refusalWords}
 
 -- ---- in Rattle
 

@@ -7,7 +7,7 @@ use mathlib.Core.Bool.{Bool, true, false}
 use mathlib.Core.List.{List, _++_}
 use lib.Dec.{eqb}
 use lib.ListN.{length}
-use Rattle.wire.specs.Octets.{Octets}
+use Rattle.wire.specs.Bytes.{Octets}
 use Rattle.answer.specs.Numbers.{numberOf, notWhole}
 use Rattle.answer.specs.declared.Refused.{Refused}
 use Rattle.dss_frame.specs.declared.Rules.{Rules}

@@ -6,9 +6,9 @@ use mathlib.Core.Path.{_≡_}
 use mathlib.Core.List.{List}
 use lib.ListN.{length, getD, take}
 use Rattle.wire.specs.Bytes.{part}
-use Rattle.dss_frame.specs.Stretches.{Follow, ComesFrom, Each}
+use Rattle.dss_frame.specs.Following.{Follow, ComesFrom, Each}
 use Rattle.dss_frame.specs.declared.DssFrame.{DssFrame}
-use Rattle.dss_salvage.specs.SalvageCall.{startsIn, endsIn}
+use Rattle.dss_salvage.specs.SalvageEntries.{startsIn, endsIn}
 use Rattle.dss_salvage.specs.declared.Entry.{Entry}
 use Rattle.dss_salvage.specs.declared.Entry.the-variants.{Frame, Refused as Refuses}
 use Rattle.dss_salvage.specs.declared.SalvageEntry.{SalvageEntry}

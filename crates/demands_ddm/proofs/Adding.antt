@@ -7,62 +7,26 @@ use mathlib.Core.List.{List, [], _∷_, _++_}
 use borrow.Author.Tests.{le-leb}
 use lib.Dec.{leb}
 use lib.ListN.{length, getD}
-use contract.Lifetimes.{Lfts}
-use denote.Ref.{RefT, at-last}
 use Rattle.wire.specs.Bytes.{two, last, splice}
-use Rattle.wire.specs.Laws.{picked, pick-yes}
-use Rattle.wire.specs.Splice.{laid-fits}
+use Rattle.wire.proofs.WireLaws.{picked, pick-yes}
+use Rattle.wire.proofs.Splicing.{laid-fits}
 use Rattle.answer.specs.Numbers.{numberOf}
 use Rattle.answer.specs.Rooms.{roomFor}
 use Rattle.answer.specs.declared.Refused.{Refused}
 use Rattle.answer.specs.declared.RoomFor.{RoomFor}
 use Rattle.answer.specs.declared.RoomFor.the-variants.{Enough, Refused as Refuses}
 use Rattle.ddm_builder.specs.Built.{built}
-use Rattle.ddm_builder.specs.Builder.{fresh, addedBy, Adds, parameter16, parameter32}
+use Rattle.ddm_builder.specs.Builder.{addedBy, Adds, parameter16, parameter32}
 use Rattle.ddm_builder.specs.declared.DdmBuilder.{DdmBuilder}
 use Rattle.ddm_builder.specs.declared.Added.{Added as AddedOr}
 use Rattle.ddm_builder.specs.declared.Added.the-variants.{Done}
-use Rattle.ddm_builder.proofs.DdmBuilder.add_code_point.Reads as add-code-point
-use Rattle.ddm_builder.proofs.DdmBuilder.add_u16.Reads as add-u16
-use Rattle.ddm_builder.proofs.DdmBuilder.add_u32.Reads as add-u32
-use Rattle.gateway_words.specs.Words.{Answered}
+use Rattle.gateway_words.specs.AnswerWords.{Answered}
 use Rattle.gateway_builder.specs.BuilderWords.{builderOf, adding, addedWords, Appends}
-use Rattle.gateway_builder.proofs.lattrugone_builder_add_code_point.Reads as exported-add-code-point
-use Rattle.gateway_builder.proofs.lattrugone_builder_add_u16.Reads as exported-add-u16
-use Rattle.gateway_builder.proofs.lattrugone_builder_add_u32.Reads as exported-add-u32
-use Rattle.demands_ddm.specs.Reading.{Added, none, more}
-use Rattle.demands_ddm.specs.Words.{AnswersNumber}
-use Rattle.demands_ddm.proofs.Requests.{Filled, added-filled}
+use Rattle.demands_ddm.specs.ReadingBack.{Added, none, more}
+use Rattle.demands_ddm.specs.ReadingWords.{AnswersNumber}
+use Rattle.demands_ddm.proofs.Requests.{FilledRequest, added-filled}
 use Rattle.demands_ddm.proofs.Said.{after-is, said-number}
-
--- by `DdmBuilder::add_code_point`, `add_u16` and `add_u32`, from a fresh builder on
-pub data ByCalls (cp : ℕ) (start : List ℕ) : List (ℕ × List ℕ) → DdmBuilder → List ℕ → Type 0 where
-  no-call : ByCalls cp start [] (fresh cp) start
-  call : {l : List (ℕ × List ℕ)} {b : DdmBuilder} {now : List ℕ} → ByCalls cp start l b now → (κs : Lfts 2) (c : ℕ) (d room : RefT (List ℕ)) (next : DdmBuilder) (after : List ℕ) → room .now ≡ now
-      → add-code-point.Post κs (b, (c, (d, (room, tt)))) (Done next) (b, (c, (d, (at-last room after, tt))))
-      → ByCalls cp start (l ++ ((c, d .now) ∷ [])) next after
-  call-u16 : {l : List (ℕ × List ℕ)} {b : DdmBuilder} {now : List ℕ} → ByCalls cp start l b now → (κs : Lfts 1) (c val : ℕ) (room : RefT (List ℕ)) (next : DdmBuilder) (after : List ℕ) → room .now ≡ now
-      → add-u16.Post κs (b, (c, (val, (room, tt)))) (Done next) (b, (c, (val, (at-last room after, tt))))
-      → ByCalls cp start (l ++ ((c, two val) ∷ [])) next after
-  call-u32 : {l : List (ℕ × List ℕ)} {b : DdmBuilder} {now : List ℕ} → ByCalls cp start l b now → (κs : Lfts 1) (c val : ℕ) (room : RefT (List ℕ)) (next : DdmBuilder) (after : List ℕ) → room .now ≡ now
-      → add-u32.Post κs (b, (c, (val, (room, tt)))) (Done next) (b, (c, (val, (at-last room after, tt))))
-      → ByCalls cp start (l ++ ((c, last 4 val) ∷ [])) next after
-
--- by `lattrugone_builder_add_code_point`, `_add_u16` and `_add_u32`, from fill mark 0 on: the next fill mark stands in word 2
-pub data ByWords (start : List ℕ) : List (ℕ × List ℕ) → ℕ → List ℕ → Type 0 where
-  no-word : ByWords start [] 0 start
-  word : {l : List (ℕ × List ℕ)} {fill : ℕ} {now : List ℕ} → ByWords start l fill now → (κs : Lfts 3) (c : ℕ) (d room words : RefT (List ℕ)) (after said : List ℕ) → room .now ≡ now
-      → 8 ≤ length (words .now)
-      → exported-add-code-point.Post κs (fill, (c, (d, (room, (words, tt))))) 0 (fill, (c, (d, (at-last room after, (at-last words said, tt)))))
-      → ByWords start (l ++ ((c, d .now) ∷ [])) (getD said 2 0) after
-  word-u16 : {l : List (ℕ × List ℕ)} {fill : ℕ} {now : List ℕ} → ByWords start l fill now → (κs : Lfts 2) (c val : ℕ) (room words : RefT (List ℕ)) (after said : List ℕ) → room .now ≡ now
-      → 8 ≤ length (words .now)
-      → exported-add-u16.Post κs (fill, (c, (val, (room, (words, tt))))) 0 (fill, (c, (val, (at-last room after, (at-last words said, tt)))))
-      → ByWords start (l ++ ((c, two val) ∷ [])) (getD said 2 0) after
-  word-u32 : {l : List (ℕ × List ℕ)} {fill : ℕ} {now : List ℕ} → ByWords start l fill now → (κs : Lfts 2) (c val : ℕ) (room words : RefT (List ℕ)) (after said : List ℕ) → room .now ≡ now
-      → 8 ≤ length (words .now)
-      → exported-add-u32.Post κs (fill, (c, (val, (room, (words, tt))))) 0 (fill, (c, (val, (at-last room after, (at-last words said, tt)))))
-      → ByWords start (l ++ ((c, last 4 val) ∷ [])) (getD said 2 0) after
+use Rattle.demands_ddm.specs.Adding.{ByCalls, ByWords, no-call, call, call-u16, call-u32, no-word, word, word-u16, word-u32}
 
 by-calls : {cp : ℕ} {start : List ℕ} {l : List (ℕ × List ℕ)} {b : DdmBuilder} {now : List ℕ} → ByCalls cp start l b now → Added cp start l b now
 unfolding parameter32
@@ -119,8 +83,8 @@ by-words cp {start} (word-u32 {l = l} {fill = fill} {now = now} a κs c val room
     one-more cp fill start l now (by-words cp a) c (last 4 val) (words .now) after said h (subst (λ (x : List ℕ). Appends (adding fill) (parameter32 c val) x (words .now) 0 after said) e p)
 
 -- what the builder then has
-pub calls-filled : {cp : ℕ} {start : List ℕ} {l : List (ℕ × List ℕ)} {b : DdmBuilder} {now : List ℕ} → ByCalls cp start l b now → Filled cp l b now
+pub calls-filled : {cp : ℕ} {start : List ℕ} {l : List (ℕ × List ℕ)} {b : DdmBuilder} {now : List ℕ} → ByCalls cp start l b now → FilledRequest cp l b now
 calls-filled a = added-filled (by-calls a)
 
-pub words-filled : (cp : ℕ) {start : List ℕ} {l : List (ℕ × List ℕ)} {fill : ℕ} {now : List ℕ} → ByWords start l fill now → Filled cp l (builderOf cp fill) now
+pub words-filled : (cp : ℕ) {start : List ℕ} {l : List (ℕ × List ℕ)} {fill : ℕ} {now : List ℕ} → ByWords start l fill now → FilledRequest cp l (builderOf cp fill) now
 words-filled cp a = added-filled (by-words cp a)

@@ -8,26 +8,25 @@ use borrow.Author.Tests.{le-leb, eqb-true}
 use lib.Dec.{eqb}
 use lib.ListN.{length, take, drop}
 use lib.Seq.{take-at, drop-at}
-use Rattle.wire.specs.Bytes.{and, be16, splice}
-use Rattle.wire.specs.Laws.{by, and-no, pick-yes}
-use Rattle.wire.specs.Octets.{Octets}
-use Rattle.wire.specs.Splice.{laid-fits}
+use Rattle.wire.specs.Bytes.{and, be16, splice, Octets}
+use Rattle.wire.proofs.WireLaws.{by, and-no, pick-yes}
+use Rattle.wire.proofs.Splicing.{laid-fits}
 use Rattle.answer.specs.Rooms.{laidAtStart, Lays}
 use Rattle.answer.specs.declared.Laid.{Laid}
 use Rattle.layouts.specs.DdmLayout.{Documented, Ddm, Streamed}
 use Rattle.ddm_length.specs.Markers.{hasMarkers}
 use Rattle.ddm_builder.specs.Built.{built}
-use Rattle.ddm_builder.specs.Builder.{objectOf, Builds}
+use Rattle.ddm_builder.specs.Builder.{builderObject, Builds}
 use Rattle.ddm_builder.specs.declared.DdmBuilder.{DdmBuilder}
 use Rattle.ddm_object.specs.ObjectCalls.{inWork, ObjectAt}
-use Rattle.ddm_object.specs.Data.{Given, given-of, run-data}
-use Rattle.ddm_object.specs.Records.{rec-in}
+use Rattle.ddm_object.proofs.DataLaws.{Given, given-of, run-data}
+use Rattle.ddm_object.proofs.ObjectRecords.{rec-in}
 use Rattle.ddm_object.specs.declared.DdmObject.{DdmObject}
 use Rattle.ddm_object.specs.declared.ObjectFound.{ObjectFound}
 use Rattle.ddm_object.specs.declared.ObjectFound.the-variants.{Object as Gives}
-use Rattle.ddm_laws.specs.Layout.{built-ddm}
-use Rattle.ddm_laws.specs.Complete.{read-ddm}
-use Rattle.demands_ddm.specs.Reading.{LaidFirst, dataOf, headerOf, ReadsAs}
+use Rattle.ddm_laws.proofs.LayoutLaws.{built-ddm}
+use Rattle.ddm_laws.proofs.Complete.{read-ddm}
+use Rattle.demands_ddm.specs.ReadingBack.{LaidFirst, dataOf, builtHeader, ReadsAs}
 use Rattle.demands_ddm.proofs.LayoutRead.{built-read}
 
 -- ---- laid down where there is room
@@ -49,11 +48,11 @@ pub lays-first : (bytes room : List ℕ) (r : Laid) (after : List ℕ) → lengt
 lays-first bytes room r after h p = laid-first bytes room 0 r after h (p .answers) (p .room-is ∙ laid-fits room 0 bytes (omega arith))
 
 -- `DdmBuilder::build`: of the filled part
-pub builds-first : (b : DdmBuilder) (content room : List ℕ) (r : Laid) (after : List ℕ) → b .fill ≤ length content → length (objectOf b content) ≤ length room
-    → Builds b content room r after → LaidFirst (objectOf b content) room r after
+pub builds-first : (b : DdmBuilder) (content room : List ℕ) (r : Laid) (after : List ℕ) → b .fill ≤ length content → length (builderObject b content) ≤ length room
+    → Builds b content room r after → LaidFirst (builderObject b content) room r after
 builds-first b content room r after f h p =
-    laid-first (objectOf b content) room (b .fill) r after h (p .answers ∙ pick-yes _ _ (le-leb (b .fill) (length content) f))
-    (p .room-is ∙ pick-yes _ _ (le-leb (b .fill) (length content) f) ∙ laid-fits room 0 (objectOf b content) (omega arith))
+    laid-first (builderObject b content) room (b .fill) r after h (p .answers ∙ pick-yes _ _ (le-leb (b .fill) (length content) f))
+    (p .room-is ∙ pick-yes _ _ (le-leb (b .fill) (length content) f) ∙ laid-fits room 0 (builderObject b content) (omega arith))
 
 -- ---- an object laid down has the layout, and is read back
 
@@ -63,11 +62,11 @@ module _ (cp : ℕ) (d room : List ℕ) (small : cp < 65536) (few : length d < 2
 
   module _ (work : List ℕ) (x : ObjectFound) (workAfter : List ℕ) where
     -- read from the room as it is
-    pub laid-parsed : ObjectAt after 0 work x workAfter → ReadsAs cp d after 0 (headerOf d) work x workAfter
+    pub laid-parsed : ObjectAt after 0 work x workAfter → ReadsAs cp d after 0 (builtHeader d) work x workAfter
     laid-parsed p = built-read cp d small few after (drop (length (built cp d)) room) 0 (w .whole) work x workAfter p
 
     -- read from the bytes answered alone
-    pub part-parsed : ObjectAt (take (length (built cp d)) after) 0 work x workAfter → ReadsAs cp d (take (length (built cp d)) after) 0 (headerOf d) work x workAfter
+    pub part-parsed : ObjectAt (take (length (built cp d)) after) 0 work x workAfter → ReadsAs cp d (take (length (built cp d)) after) 0 (builtHeader d) work x workAfter
     part-parsed p = built-read cp d small few (take (length (built cp d)) after) [] 0 (w .first ∙ sym (append-nil (built cp d))) work x workAfter p
 
 -- ---- and the other way: what is read has the layout, for the lengths that the volume knows, and without markers

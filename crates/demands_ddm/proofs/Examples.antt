@@ -5,19 +5,19 @@ use mathlib.Core.Path.{_≡_, refl, sym, ap, _∙_}
 use mathlib.Core.List.{List, [], _∷_, _++_, append-nil}
 use lib.ListN.{length, drop, replicate, length-replicate}
 use Rattle.wire.specs.Bytes.{last, spelled, splice, laid}
-use Rattle.wire.specs.Octets.{octets-tested}
+use Rattle.wire.proofs.OctetLaws.{octets-tested}
 use Rattle.answer.specs.Numbers.{numberOf}
 use Rattle.answer.specs.declared.Laid.the-variants.{Bytes}
 use Rattle.layouts.specs.DdmLayout.{short, Ddm}
 use Rattle.ddm_length.specs.Lengths.{measured, marshaled}
 use Rattle.ddm_length.specs.Markers.{unmarked, keptFuel}
-use Rattle.ddm_builder.specs.Built.{built, lengthBytes}
+use Rattle.ddm_builder.specs.Built.{built, lengthBytes, builtAll, Fit}
 use Rattle.ddm_object.specs.Objects.{parsed, parameters, parametersFuel, allObjects, allFuel}
-use Rattle.ddm_object.specs.ObjectCalls.{objectAt, workParsed, ObjectAt, recordsOf, worksOf, givenObjects, givenAll, notFound, findFrom}
+use Rattle.ddm_object.specs.ObjectCalls.{objectAt, workParsed, ObjectAt, notFound, findFrom}
+use Rattle.ddm_rows.specs.ListCalls.{objectRecords, worksOf, givenObjects, givenList}
 use Rattle.ddm_object.specs.declared.ObjectFound.the-variants.{Object as Gives, Refused as NotGiven}
-use Rattle.ddm_object.specs.declared.ObjectsFound.the-variants.{Objects}
-use Rattle.ddm_laws.specs.Lists.{joined, Fit}
-use Rattle.demands_ddm.specs.Reading.{LaidFirst, plain, recordsBuilt, Lacks}
+use Rattle.ddm_rows.specs.declared.ObjectsFound.the-variants.{Objects}
+use Rattle.demands_ddm.specs.ReadingBack.{LaidFirst, plain, recordsBuilt, Lacks}
 use Rattle.demands_ddm.proofs.LayoutRead.{six-read, eight-read}
 use Rattle.demands_ddm.proofs.Building.{lays-first, read-layout}
 
@@ -82,20 +82,20 @@ pub params-fit : Fit params
 unfolding params
 params-fit = (omega arith, omega arith, (omega arith, omega arith, (omega arith, omega arith, tt)))
 
-pub params-bytes : joined params ≡ 0 ∷ 5 ∷ 0x21 ∷ 0x10 ∷ 0xC1 ∷ 0 ∷ 4 ∷ 0x11 ∷ 0x2F ∷ 0 ∷ 6 ∷ 0x21 ∷ 0x10 ∷ 7 ∷ 8 ∷ []
+pub params-bytes : builtAll params ≡ 0 ∷ 5 ∷ 0x21 ∷ 0x10 ∷ 0xC1 ∷ 0 ∷ 4 ∷ 0x11 ∷ 0x2F ∷ 0 ∷ 6 ∷ 0x21 ∷ 0x10 ∷ 7 ∷ 8 ∷ []
 unfolding params built lengthBytes last
 params-bytes = refl
 
 -- listed in a row of three and no work area, both ways; the first is found, at 0; another behind it, at 5; a third isn't there
 pub params-read :
-    (givenObjects (joined params) 0 3 (parameters (joined params)) ≡ Objects 3 0)
-    × (givenAll (joined params) 0 3 (allObjects (joined params)) ≡ Objects 3 0)
-    × (recordsOf (joined params) 0 (parameters (joined params)) ≡ plain 0 0x2110 4 1 ∷ plain 5 0x112F 4 0 ∷ plain 9 0x2110 4 2 ∷ [])
+    (givenObjects (builtAll params) 0 3 (parameters (builtAll params)) ≡ Objects 3 0)
+    × (givenList (builtAll params) 0 3 (allObjects (builtAll params)) ≡ Objects 3 0)
+    × (objectRecords (builtAll params) 0 (parameters (builtAll params)) ≡ plain 0 0x2110 4 1 ∷ plain 5 0x112F 4 0 ∷ plain 9 0x2110 4 2 ∷ [])
     × (recordsBuilt 0 params ≡ plain 0 0x2110 4 1 ∷ plain 5 0x112F 4 0 ∷ plain 9 0x2110 4 2 ∷ [])
-    × (findFrom (joined params) 0 0x2110 0 (parameters (joined params)) ≡ Gives (plain 0 0x2110 4 1))
-    × (findFrom (joined params) 0 0x112F 0 (parameters (joined params)) ≡ Gives (plain 5 0x112F 4 0))
-    × (findFrom (joined params) 0 0x2111 0 (parameters (joined params)) ≡ NotGiven notFound)
-unfolding params built lengthBytes last parsed measured marshaled parameters parametersFuel allObjects allFuel recordsOf worksOf recordsBuilt findFrom
+    × (findFrom (builtAll params) 0 0x2110 0 (parameters (builtAll params)) ≡ Gives (plain 0 0x2110 4 1))
+    × (findFrom (builtAll params) 0 0x112F 0 (parameters (builtAll params)) ≡ Gives (plain 5 0x112F 4 0))
+    × (findFrom (builtAll params) 0 0x2111 0 (parameters (builtAll params)) ≡ NotGiven notFound)
+unfolding params built lengthBytes last parsed measured marshaled parameters parametersFuel allObjects allFuel objectRecords worksOf recordsBuilt findFrom
 params-read = (refl, refl, refl, refl, refl, refl, refl)
 
 -- that is 11

@@ -9,21 +9,22 @@ use lib.Dec.{leb, eqb}
 use lib.ListN.{length, take, drop, length-append}
 use lib.Seq.{drop-drop, drop-at, take-at}
 use Rattle.wire.specs.Bytes.{pick, and, be16, two, laid}
-use Rattle.wire.specs.Laws.{by, and-no, pick-yes, pick-no, be16-front}
-use Rattle.wire.specs.Places.{here-length}
-use Rattle.wire.specs.Splice.{laid-fits, splice-none}
+use Rattle.wire.proofs.WireLaws.{by, and-no, pick-yes, pick-no, be16-front}
+use Rattle.wire.proofs.Places.{here-length}
+use Rattle.wire.proofs.Splicing.{laid-fits, splice-none}
 use Rattle.layouts.specs.DdmLayout.{Ddm, inline, extended, streamed, Streamed}
 use Rattle.ddm_length.specs.Markers.{hasMarkers}
 use Rattle.ddm_builder.specs.Built.{lengthBytes, built}
-use Rattle.ddm_builder.specs.Forms.{length-built, inline-bytes, four-bytes, six-bytes, eight-bytes}
+use Rattle.ddm_builder.proofs.BuiltForms.{length-built, inline-bytes, four-bytes, six-bytes, eight-bytes}
 use Rattle.ddm_object.specs.Objects.{object, parsed}
-use Rattle.ddm_object.specs.ObjectCalls.{inWork, workOf, recordOf, givenParsed, workParsed, dataParsed, objectAt, ObjectAt}
-use Rattle.ddm_object.specs.Reads.{made}
+use Rattle.ddm_object.specs.ObjectCalls.{inWork, workOf, objectRecord, givenParsed, workParsed, objectAt, ObjectAt}
+use Rattle.ddm_object.proofs.DataParsed.{dataParsed}
+use Rattle.ddm_object.proofs.ObjectReads.{made}
 use Rattle.ddm_object.specs.declared.ObjectFound.{ObjectFound}
 use Rattle.ddm_object.specs.declared.ObjectFound.the-variants.{Object as Gives}
-use Rattle.ddm_laws.specs.Forms.{some-bytes}
-use Rattle.ddm_laws.specs.Layout.{built-ddm, built-ends, ddm-parsed}
-use Rattle.demands_ddm.specs.Reading.{plain, dataOf, headerOf, ReadsAs}
+use Rattle.ddm_laws.proofs.FormLaws.{some-bytes}
+use Rattle.ddm_laws.proofs.LayoutLaws.{built-ddm, built-ends, ddm-parsed}
+use Rattle.demands_ddm.specs.ReadingBack.{plain, dataOf, builtHeader, ReadsAs}
 
 -- the data are the last bytes
 pub ends-with : {cp : ℕ} {d p : List ℕ} → Ddm cp d p → (h : List ℕ) × (p ≡ h ++ d) × (4 ≤ length h)
@@ -67,7 +68,7 @@ module _ (cp : ℕ) (d p : List ℕ) (w : Ddm cp d p) (small : cp < 65536) (few 
   pub no-work : workOf s place (made cp d (length p)) ≡ []
   no-work = pick-no _ _ not-in-work
 
-  pub record-there : recordOf s place (made cp d (length p)) ≡ plain place cp (length p - length d) (length d)
+  pub record-there : objectRecord s place (made cp d (length p)) ≡ plain place cp (length p - length d) (length d)
   record-there =
       let n : length p ≡ (length p - length d) + length d = omega (arith, size) in
       ap₂ (λ (t : Bool) (m : ℕ). record { «code_point» = cp; «in_work» = t; «data_at» = pick t 0 (place + (length p - length d)); «data_len» = length d; consumed = m }) not-in-work n
@@ -117,15 +118,15 @@ module _ (cp : ℕ) (d : List ℕ) (small : cp < 65536) (few : length d < 2 ^ 63
   pub built-no-work : workOf s place (made cp d (length (built cp d))) ≡ []
   built-no-work = no-work cp d (built cp d) (built-ddm cp d few) small few s rest place e alone plain-data
 
-  header : length (built cp d) - length d ≡ headerOf d
+  header : length (built cp d) - length d ≡ builtHeader d
   header = omega (arith, length-built cp d)
 
   -- one law for every number of length bytes
-  pub built-read : (work : List ℕ) (r : ObjectFound) (after : List ℕ) → ObjectAt s place work r after → ReadsAs cp d s place (headerOf d) work r after
+  pub built-read : (work : List ℕ) (r : ObjectFound) (after : List ℕ) → ObjectAt s place work r after → ReadsAs cp d s place (builtHeader d) work r after
   built-read work r after x =
       subst (λ (h : ℕ). ReadsAs cp d s place h work r after) header (layout-read cp d (built cp d) (built-ddm cp d few) small few s rest place e alone plain-data work r after x)
 
-  pub built-record : (recordOf s place (made cp d (length (built cp d))) ≡ plain place cp (headerOf d) (length d)) × (dataOf s (plain place cp (headerOf d) (length d)) ≡ d)
+  pub built-record : (objectRecord s place (made cp d (length (built cp d))) ≡ plain place cp (builtHeader d) (length d)) × (dataOf s (plain place cp (builtHeader d) (length d)) ≡ d)
   built-record = (
     record-there cp d (built cp d) (built-ddm cp d few) small few s rest place e alone plain-data ∙ ap (λ (h : ℕ). plain place cp h (length d)) header,
     ap (λ (h : ℕ). dataOf s (plain place cp h (length d))) (sym header) ∙ data-there cp d (built cp d) (built-ddm cp d few) small few s rest place e alone plain-data,

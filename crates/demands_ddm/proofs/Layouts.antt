@@ -7,19 +7,19 @@ use lib.ListN.{length, take, length-append}
 use lib.Seq.{take-at, take-all, drop-append-seam}
 use Rattle.wire.specs.Bytes.{two, spelled}
 use Rattle.layouts.specs.DdmLayout.{Ddm}
-use Rattle.ddm_length.specs.Taken.{wide}
+use Rattle.ddm_length.proofs.TakenLengths.{wide}
 use Rattle.ddm_length.specs.Markers.{unmarked}
 use Rattle.ddm_builder.specs.Built.{built}
 use Rattle.ddm_object.specs.Objects.{parsed}
-use Rattle.ddm_object.specs.Reads.{made, Reads, own-reads}
-use Rattle.ddm_laws.specs.Layout.{built-ddm, built-ends, ddm-parsed, streamed-parsed, ddm-fixes}
-use Rattle.ddm_laws.specs.Complete.{read-ddm}
-use Rattle.demands_ddm.specs.Layouts.{readAs, BuildsLayout, ReadsLayout, RemovesMarkers, ReadsOtherWidths, ReadHasLayout, FixesObject}
+use Rattle.ddm_object.proofs.ObjectReads.{made, Reads, own-reads}
+use Rattle.ddm_laws.proofs.LayoutLaws.{built-ddm, built-ends, ddm-parsed, streamed-parsed, ddm-fixes}
+use Rattle.ddm_laws.proofs.Complete.{read-ddm}
+use Rattle.demands_ddm.specs.DdmLayouts.{readAs, BuildsLayout, ReadsDdmLayout, RemovesMarkers, ReadsOtherWidths, ReadHasLayout, FixesObject}
 
 pub builds-layout : BuildsLayout built
 builds-layout cp d f = (built-ddm cp d (f .1), built-ends cp d (f .1))
 
-pub reads-layout : ReadsLayout parsed
+pub reads-layout : ReadsDdmLayout parsed
 reads-layout cp d p behind place f w alone plain = ddm-parsed cp d p behind place (f .0) (f .1) w alone plain
 
 pub removes-markers : RemovesMarkers parsed

@@ -1,6 +1,6 @@
+pub mod DdmLayoutExamples
 pub mod Layouts
 pub mod LayoutRead
-pub mod LayoutExamples
 pub mod Listing
 pub mod Finding
 pub mod Building
@@ -13,7 +13,7 @@ pub mod Adding
 pub mod Exports
 pub mod RequestBack
 pub mod Calls
-pub mod Kept
+pub mod KeptDdm
 pub mod KeptExample
 pub mod Examples
 pub mod RequestExample

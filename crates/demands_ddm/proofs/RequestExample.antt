@@ -9,18 +9,17 @@ use Rattle.answer.specs.Rooms.{Lays}
 use Rattle.answer.specs.declared.Laid.{Laid}
 use Rattle.answer.specs.declared.Laid.the-variants.{Bytes}
 use Rattle.ddm_length.specs.Lengths.{measured, marshaled}
-use Rattle.ddm_length.specs.Markers.{unmarked}
-use Rattle.ddm_length.specs.MarkerLaws.{ends, fe}
-use Rattle.ddm_builder.specs.Built.{built, lengthBytes}
+use Rattle.ddm_length.specs.Markers.{unmarked, ends, fe}
+use Rattle.ddm_builder.specs.Built.{built, lengthBytes, builtAll, Fit}
 use Rattle.ddm_builder.specs.Builder.{Builds}
 use Rattle.ddm_builder.specs.declared.DdmBuilder.{DdmBuilder}
 use Rattle.ddm_object.specs.Objects.{parsed}
-use Rattle.ddm_object.specs.ObjectCalls.{objectAt, ObjectAt, ListsParameters}
+use Rattle.ddm_object.specs.ObjectCalls.{objectAt, ObjectAt}
+use Rattle.ddm_rows.specs.ListCalls.{ListsParameters}
 use Rattle.ddm_object.specs.declared.DdmObject.{DdmObject}
 use Rattle.ddm_object.specs.declared.ObjectFound.the-variants.{Object as Gives}
-use Rattle.ddm_object.specs.declared.ObjectsFound.{ObjectsFound}
-use Rattle.ddm_laws.specs.Lists.{joined, Fit}
-use Rattle.demands_ddm.specs.Reading.{LaidFirst, plain, dataOf, ListsAs, Added, none, more}
+use Rattle.ddm_rows.specs.declared.ObjectsFound.{ObjectsFound}
+use Rattle.demands_ddm.specs.ReadingBack.{LaidFirst, plain, dataOf, ListsAs, Added, none, more}
 use Rattle.demands_ddm.proofs.Requests.{added-filled}
 use Rattle.demands_ddm.proofs.RequestBack.{request-list}
 use Rattle.demands_ddm.proofs.Stripping.{strips-marked}
@@ -56,7 +55,7 @@ request-parsed : ObjectAt request 0 [] (Gives (plain 0 0x1041 4 9)) []
 unfolding request objectAt parsed measured marshaled laid
 request-parsed = record { answers = refl; work-is = refl }
 
-two-fit : Fit two-params × (length (joined two-params) ≡ 9) × (length (built 0x1041 (joined two-params)) ≡ 13)
+two-fit : Fit two-params × (length (builtAll two-params) ≡ 9) × (length (built 0x1041 (builtAll two-params)) ≡ 13)
 unfolding two-params built lengthBytes last
 two-fit = ((omega arith, omega arith, (omega arith, omega arith, tt)), refl, refl)
 

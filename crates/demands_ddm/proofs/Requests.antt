@@ -8,21 +8,20 @@ use lib.Dec.{leb}
 use lib.ListN.{length, take, drop, length-append}
 use lib.Seq.{take-at, length-take-le}
 use Rattle.wire.specs.Bytes.{splice}
-use Rattle.wire.specs.Laws.{picked}
-use Rattle.wire.specs.Splice.{laid-fits}
+use Rattle.wire.proofs.WireLaws.{picked}
+use Rattle.wire.proofs.Splicing.{laid-fits}
 use Rattle.answer.specs.Rooms.{roomFor}
 use Rattle.answer.specs.declared.RoomFor.{RoomFor}
 use Rattle.answer.specs.declared.RoomFor.the-variants.{Enough, Refused as Refuses}
-use Rattle.ddm_builder.specs.Built.{built}
+use Rattle.ddm_builder.specs.Built.{built, builtAll}
 use Rattle.ddm_builder.specs.Builder.{addedBy, Adds}
 use Rattle.ddm_builder.specs.declared.DdmBuilder.{DdmBuilder}
 use Rattle.ddm_builder.specs.declared.Added.the-variants.{Done}
-use Rattle.ddm_laws.specs.Lists.{joined}
-use Rattle.demands_ddm.specs.Reading.{Added, none, more}
+use Rattle.demands_ddm.specs.ReadingBack.{Added, none, more}
 
-joined-append : (l m : List (ℕ × List ℕ)) → joined (l ++ m) ≡ joined l ++ joined m
+joined-append : (l m : List (ℕ × List ℕ)) → builtAll (l ++ m) ≡ builtAll l ++ builtAll m
 joined-append [] m = refl
-joined-append (x ∷ l) m = ap (λ (b : List ℕ). built (x .0) (x .1) ++ b) (joined-append l m) ∙ sym (append-assoc (built (x .0) (x .1)) (joined l) (joined m))
+joined-append (x ∷ l) m = ap (λ (b : List ℕ). built (x .0) (x .1) ++ b) (joined-append l m) ∙ sym (append-assoc (built (x .0) (x .1)) (builtAll l) (builtAll m))
 
 -- what an addition that is answered 0 does: there was room, and the state and the room are so
 record AddedOne (b : DdmBuilder) (bytes now : List ℕ) (next : DdmBuilder) (after : List ℕ) : Type 0 where
@@ -51,17 +50,17 @@ added-one b bytes now next after p = go (roomFor (b .fill) (length now) (length 
     go (Refuses r) e q = absurd (let z : _≡_ {A = ℕ} 0 1 = cc in omega arith)
 
 -- what the builder then has: its code point, and in the filled part of the room the parameters
-pub record Filled (cp : ℕ) (l : List (ℕ × List ℕ)) (b : DdmBuilder) (now : List ℕ) : Type 0 where
+pub record FilledRequest (cp : ℕ) (l : List (ℕ × List ℕ)) (b : DdmBuilder) (now : List ℕ) : Type 0 where
   pub code-point : b .«code_point» ≡ cp
   pub inside : b .fill ≤ length now
-  pub filled : take (b .fill) now ≡ joined l
+  pub filled : take (b .fill) now ≡ builtAll l
 
-pub added-filled : {cp : ℕ} {room : List ℕ} {l : List (ℕ × List ℕ)} {b : DdmBuilder} {now : List ℕ} → Added cp room l b now → Filled cp l b now
+pub added-filled : {cp : ℕ} {room : List ℕ} {l : List (ℕ × List ℕ)} {b : DdmBuilder} {now : List ℕ} → Added cp room l b now → FilledRequest cp l b now
 unfolding splice
 added-filled none = record { code-point = refl; inside = omega arith; filled = refl }
 added-filled {cp} {room} (more {l = l} {b = b} {now = now} a c d next after p) = go (added-filled a) (added-one b (built c d) now next after p)
   where
-    go : Filled cp l b now → AddedOne b (built c d) now next after → Filled cp (l ++ ((c, d) ∷ [])) next after
+    go : FilledRequest cp l b now → AddedOne b (built c d) now next after → FilledRequest cp (l ++ ((c, d) ∷ [])) next after
     go f o =
         let n : ℕ = b .fill + length (built c d) in
         let fill : next .fill ≡ n = ap (λ (x : DdmBuilder). x .fill) (o .state) in

@@ -7,26 +7,27 @@ use borrow.Author.Tests.{le-leb}
 use lib.ListN.{length, getD, drop}
 use lib.Seq.{drop-at}
 use Rattle.wire.specs.Bytes.{splice, landed}
-use Rattle.wire.specs.Laws.{pick-yes}
-use Rattle.wire.specs.Splice.{laid-fits, splice-none}
+use Rattle.wire.proofs.WireLaws.{pick-yes}
+use Rattle.wire.proofs.Splicing.{laid-fits, splice-none}
 use Rattle.answer.specs.Rooms.{laidAtStart}
 use Rattle.answer.specs.declared.Laid.{Laid}
-use Rattle.ddm_builder.specs.Built.{built}
-use Rattle.ddm_builder.specs.Forms.{length-built}
+use Rattle.ddm_builder.specs.Built.{built, builtAll, Fit}
+use Rattle.ddm_builder.proofs.BuiltForms.{length-built}
 use Rattle.ddm_object.specs.Objects.{Object, parameters, allObjects}
-use Rattle.ddm_object.specs.ObjectCalls.{worksOf, recordsOf, objectsFit, givenObjects, givenAll, listed, notFound}
+use Rattle.ddm_object.specs.ObjectCalls.{notFound}
+use Rattle.ddm_rows.specs.ListCalls.{worksOf, objectRecords, objectsFit, givenObjects, givenList, listed}
 use Rattle.ddm_object.specs.declared.DdmObject.{DdmObject}
 use Rattle.ddm_object.specs.declared.ObjectFound.{ObjectFound}
 use Rattle.ddm_object.specs.declared.ObjectFound.the-variants.{Refused as NotGiven}
-use Rattle.ddm_object.specs.declared.ObjectsFound.{ObjectsFound}
-use Rattle.ddm_object.specs.declared.ObjectsFound.the-variants.{Objects}
-use Rattle.ddm_laws.specs.Lists.{joined, objectsOf, Fit, parameters-joined, objects-joined}
-use Rattle.gateway_words.specs.Words.{doneWords, laidWords, Answered}
+use Rattle.ddm_rows.specs.declared.ObjectsFound.{ObjectsFound}
+use Rattle.ddm_rows.specs.declared.ObjectsFound.the-variants.{Objects}
+use Rattle.ddm_laws.proofs.BuiltLists.{objectsOf, parameters-joined, objects-joined}
+use Rattle.gateway_words.specs.AnswerWords.{doneWords, laidWords, Answered}
 use Rattle.gateway_object.specs.ObjectWords.{objectWords, foundWords}
-use Rattle.gateway_object_rows.specs.RowWords.{listWords, rowWords, records, ObjectsWords, ParametersWords}
-use Rattle.gateway_object_rows.specs.Filling.{row-length}
-use Rattle.demands_ddm.specs.Reading.{plain, dataOf, headerOf, recordsBuilt, AllSay, ReadsAs}
-use Rattle.demands_ddm.specs.Words.{Says, AnswersNumber, AnswersObject, RowSays, AnswersList, AnswersNone}
+use Rattle.gateway_object_rows.specs.ListWords.{listWords, listRow, records, ObjectsWords, ParametersWords}
+use Rattle.gateway_object_rows.proofs.FillingLaws.{row-length}
+use Rattle.demands_ddm.specs.ReadingBack.{plain, dataOf, builtHeader, recordsBuilt, AllSay, ReadsAs}
+use Rattle.demands_ddm.specs.ReadingWords.{SaysInWords, AnswersNumber, AnswersObject, RowSays, AnswersList, AnswersNone}
 use Rattle.demands_ddm.proofs.Listing.{rest-of, fit-listed, given-listed}
 
 -- the words, where there are eight: the answer's, and behind them what was there
@@ -55,7 +56,7 @@ module _ (words : List ℕ) (r : ℕ) (after : List ℕ) (h : 8 ≤ length words
   said-laid place size n f a = said-number n (subst (λ (x : Laid). Answered (laidWords x) words r after) (pick-yes _ _ (le-leb n size f)) a)
 
   says-plain : (cp : ℕ) (d s : List ℕ) (place header : ℕ) (rest : List ℕ) → dataOf s (plain place cp header (length d)) ≡ d
-      → Says cp d s (header + length d) (objectWords (plain place cp header (length d)) ++ rest)
+      → SaysInWords cp d s (header + length d) (objectWords (plain place cp header (length d)) ++ rest)
   says-plain cp d s place header rest e = record { number = refl; code-point = refl; in-run = refl; data-is = e; data-length = refl; takes-so-many = refl }
 
   pub said-object : (cp : ℕ) (d s : List ℕ) (place header : ℕ) (work workAfter : List ℕ) (x : ObjectFound) → ReadsAs cp d s place header work x workAfter
@@ -65,7 +66,7 @@ module _ (words : List ℕ) (r : ℕ) (after : List ℕ) (h : 8 ≤ length words
       let w = after-is _ words r after refl h b in
       record {
         done = b .number-is;
-        says = subst (Says cp d s (header + length d)) (sym w) (says-plain cp d s place header (drop 8 words) (p .data-is));
+        says = subst (SaysInWords cp d s (header + length d)) (sym w) (says-plain cp d s place header (drop 8 words) (p .data-is));
         behind = ap (drop 8) w;
         work-is = p .work-is;
       }
@@ -79,11 +80,11 @@ module _ (words : List ℕ) (r : ℕ) (after : List ℕ) (h : 8 ≤ length words
 
 -- ---- lists
 
-row-says : (l : List (ℕ × List ℕ)) (s : List ℕ) (place : ℕ) (rest : List ℕ) → AllSay s l (recordsBuilt place l) → RowSays s l (rowWords (recordsBuilt place l) ++ rest)
-unfolding RowSays AllSay recordsBuilt rowWords
+row-says : (l : List (ℕ × List ℕ)) (s : List ℕ) (place : ℕ) (rest : List ℕ) → AllSay s l (recordsBuilt place l) → RowSays s l (listRow (recordsBuilt place l) ++ rest)
+unfolding RowSays AllSay recordsBuilt listRow
 row-says [] s place rest a = tt
 row-says (x ∷ l) s place rest a =
-    let n : headerOf (x .1) + length (x .1) ≡ length (built (x .0) (x .1)) = sym (length-built (x .0) (x .1)) in (
+    let n : builtHeader (x .1) + length (x .1) ≡ length (built (x .0) (x .1)) = sym (length-built (x .0) (x .1)) in (
       record { number = refl; code-point = refl; in-run = refl; data-is = a .1; data-length = refl; takes-so-many = n },
       row-says l s (place + length (built (x .0) (x .1))) rest (a .2),
     )
@@ -95,29 +96,29 @@ built-count place (x ∷ l) = ap suc (built-count (place + length (built (x .0) 
 
 module _ (l : List (ℕ × List ℕ)) (g : Fit l) (work row words : List ℕ) (h : length l * 8 ≤ length row) (k : 8 ≤ length words) (r : ℕ) (workAfter rowAfter after : List ℕ) where
   abbrev s : List ℕ
-  s = joined l
+  s = builtAll l
 
   few : length l ≤ records row
   few = omega arith
 
   said-list : (os : List Object) (x : ObjectsFound) → os ≡ objectsOf l → x ≡ Objects (length l) 0 → Answered (listWords x) words r after
       → workAfter ≡ landed (objectsFit s os (length work) (records row)) work (worksOf s 0 os)
-      → rowAfter ≡ landed (objectsFit s os (length work) (records row)) row (rowWords (recordsOf s 0 os))
+      → rowAfter ≡ landed (objectsFit s os (length work) (records row)) row (listRow (objectRecords s 0 os))
       → AnswersList l s work row words r workAfter rowAfter after
   unfolding splice
   said-list os x e is a ew er =
       let all = rest-of l g s 0 refl in
       let fit = fit-listed l g (length work) (records row) few in
-      let ws : List ℕ = rowWords (recordsBuilt 0 l) in
+      let ws : List ℕ = listRow (recordsBuilt 0 l) in
       let n : length ws ≡ length l * 8 = row-length (recordsBuilt 0 l) ∙ ap (λ (m : ℕ). m * 8) (built-count 0 l) in
       let z : 0 + length ws ≡ length l * 8 = omega arith in
       let b = subst (λ (y : ObjectsFound). Answered (listWords y) words r after) is a in
       let w = after-is _ words r after refl k b in
       let rw′ : rowAfter ≡ ws ++ drop (length l * 8) row =
       er
-      ∙ ap (λ (y : List Object). landed (objectsFit s y (length work) (records row)) row (rowWords (recordsOf s 0 y))) e
+      ∙ ap (λ (y : List Object). landed (objectsFit s y (length work) (records row)) row (listRow (objectRecords s 0 y))) e
       ∙ pick-yes _ _ fit
-      ∙ ap (λ (y : List DdmObject). splice row 0 (rowWords y)) (all .records)
+      ∙ ap (λ (y : List DdmObject). splice row 0 (listRow y)) (all .records)
       ∙ ap (λ (m : ℕ). ws ++ drop m row) z in
       record {
         done = b .number-is;
@@ -138,9 +139,9 @@ module _ (l : List (ℕ × List ℕ)) (g : Fit l) (work row words : List ℕ) (h
   pub said-parameters : ParametersWords s work row words r workAfter rowAfter after → AnswersList l s work row words r workAfter rowAfter after
   said-parameters p =
       said-list (parameters s) (givenObjects s (length work) (records row) (parameters s)) (parameters-joined l g)
-      (ap (givenObjects s (length work) (records row)) (parameters-joined l g) ∙ given-listed l g (length work) (records row) few) (p .answers) (p .work-is) (p .row-is)
+      (ap (givenObjects s (length work) (records row)) (parameters-joined l g) ∙ given-listed l g (length work) (records row) few) (p .answers) (p .room-is) (p .row-is)
 
   pub said-objects : ObjectsWords s work row words r workAfter rowAfter after → AnswersList l s work row words r workAfter rowAfter after
   said-objects p =
-      said-list (listed (allObjects s)) (givenAll s (length work) (records row) (allObjects s)) (ap listed (objects-joined l g))
-      (ap (givenAll s (length work) (records row)) (objects-joined l g) ∙ given-listed l g (length work) (records row) few) (p .answers) (p .work-is) (p .row-is)
+      said-list (listed (allObjects s)) (givenList s (length work) (records row) (allObjects s)) (ap listed (objects-joined l g))
+      (ap (givenList s (length work) (records row)) (objects-joined l g) ∙ given-listed l g (length work) (records row) few) (p .answers) (p .room-is) (p .row-is)

@@ -8,9 +8,9 @@ use mathlib.Core.List.{List, _++_}
 use lib.ListN.{length, drop}
 use Rattle.answer.specs.Rooms.{Lays}
 use Rattle.answer.specs.declared.Laid.{Laid}
-use Rattle.ddm_length.specs.Markers.{markerFirst, unmarked}
-use Rattle.ddm_length.specs.MarkerLaws.{Without, Marked, unmarked-without, unmarked-marked, short-unmarked, plain-unmarked}
-use Rattle.demands_ddm.specs.Reading.{LaidFirst}
+use Rattle.ddm_length.specs.Markers.{markerFirst, unmarked, Marked}
+use Rattle.ddm_length.proofs.MarkerLaws.{Without, unmarked-without, unmarked-marked, short-unmarked, plain-unmarked}
+use Rattle.demands_ddm.specs.ReadingBack.{LaidFirst}
 use Rattle.demands_ddm.proofs.Building.{lays-first}
 
 -- what is laid down is the data without some markers of two bytes, and every other byte in its order

@@ -7,7 +7,7 @@ use mathlib.Core.List.{List, [], _∷_}
 use lib.ListN.{length, getD, take, drop}
 use Rattle.ddm_object.specs.declared.DdmObject.{DdmObject}
 use Rattle.gateway_object.specs.ObjectWords.{flagWord, placedWords}
-use Rattle.gateway_object_rows.specs.RowWords.{rowWords}
+use Rattle.gateway_object_rows.specs.ListWords.{listRow}
 
 flag-fixes : (b b′ : Bool) → flagWord b ≡ flagWord b′ → b ≡ b′
 flag-fixes true true e = refl
@@ -24,8 +24,8 @@ words-fix place place′ o o′ e = (word 1, fields (word 2) (flag-fixes (o .«i
     fields : o .«code_point» ≡ o′ .«code_point» → o .«in_work» ≡ o′ .«in_work» → o .«data_at» ≡ o′ .«data_at» → o .«data_len» ≡ o′ .«data_len» → o .consumed ≡ o′ .consumed → o ≡ o′
     fields p q s t u = λ i. record { «code_point» = p i; «in_work» = q i; «data_at» = s i; «data_len» = t i; consumed = u i }
 
-pub row-fixes : (os os′ : List DdmObject) → rowWords os ≡ rowWords os′ → os ≡ os′
-unfolding rowWords
+pub row-fixes : (os os′ : List DdmObject) → listRow os ≡ listRow os′ → os ≡ os′
+unfolding listRow
 row-fixes [] [] e = refl
 row-fixes [] (o′ ∷ os′) e = absurd (omega (arith, ap length e))
 row-fixes (o ∷ os) [] e = absurd (omega (arith, ap length e))

@@ -1,3 +1,4 @@
-pub mod Reading
-pub mod Words
-pub mod Layouts
+pub mod Adding
+pub mod DdmLayouts
+pub mod ReadingBack
+pub mod ReadingWords

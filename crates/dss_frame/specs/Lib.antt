@@ -3,6 +3,7 @@ pub mod Segments
 pub mod Reading
 pub mod Frames
 pub mod Salvage
-pub mod Records
-pub mod Stretches
 pub mod Written
+pub mod Following
+pub mod FrameRecords
+pub mod inner

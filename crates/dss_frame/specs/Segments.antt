@@ -18,13 +18,13 @@ pub record Segment : Type 0 where
   pub end : ℕ
 
 -- what a segment adds to the payload
-abbrev pub bytesOf : List ℕ → Segment → List ℕ
-bytesOf s g = part s (g .at + g .framing + g .dropped) (g .end)
+abbrev pub segmentBytes : List ℕ → Segment → List ℕ
+segmentBytes s g = part s (g .at + g .framing + g .dropped) (g .end)
 
 -- the payload of a list of segments: their bytes joined
 unfoldable pub payloadOf : List ℕ → List Segment → List ℕ
 payloadOf s [] = []
-payloadOf s (g ∷ gs) = bytesOf s g ++ payloadOf s gs
+payloadOf s (g ∷ gs) = segmentBytes s g ++ payloadOf s gs
 
 -- where a list of segments that follows `from` ends
 unfoldable pub endOf : ℕ → List Segment → ℕ

@@ -17,3 +17,10 @@ pub struct DssFrame {
     pub at: usize,
     pub end: usize,
 }
+
+// Where a record's frame or entry starts in the run, where its payload lies in the room, and how many records are still to come.
+pub struct RowPlace {
+    pub at: usize,
+    pub payload_at: usize,
+    pub left: usize,
+}

@@ -9,7 +9,7 @@ use borrow.Author.Tests.{le-leb}
 use contract.Lifetimes.{Lfts}
 use denote.Ref.{RefT, at-last}
 use Rattle.wire.specs.Bytes.{laid}
-use Rattle.wire.specs.Laws.{pick-yes}
+use Rattle.wire.proofs.WireLaws.{pick-yes}
 use Rattle.answer.specs.Rooms.{laidAtStart}
 use Rattle.answer.specs.declared.Laid.{Laid}
 use Rattle.answer.specs.declared.Laid.the-variants.{Bytes}
@@ -21,7 +21,7 @@ use Rattle.dss_head.specs.declared.TypeFound.{TypeFound}
 use Rattle.dss_head.specs.declared.HeadFound.{HeadFound}
 use Rattle.dss_head.specs.declared.HeadFound.the-variants.{Head}
 use Rattle.dss_head.specs.Heads.{headAt, headBytes}
-use Rattle.dss_head.specs.HeadLaws.{asRead, laid-back}
+use Rattle.dss_head.proofs.HeadLaws.{asRead, laid-back}
 use Rattle.dss_head.proofs.decode_dss_length.Reads as decode-dss-length
 use Rattle.dss_head.proofs.is_full_continuation_len.Reads as is-full-continuation-len
 use Rattle.dss_head.proofs.decode_continuation_len.Reads as decode-continuation-len

@@ -12,6 +12,16 @@ pub const DSS_MAGIC: u8 = 0xD0;
 pub const DSS_HEADER_LEN: usize = 6;
 // The most bytes that one segment has.
 pub const DSS_MAX_SEGMENT_LEN: u16 = 32767;
+// The raw length of a segment that has them all and isn't its frame's last.
+pub const DSS_CONTINUED: u16 = 0xFFFF;
+// The bytes of such a segment: 32,767.
+pub const DSS_FULL_SEGMENT_LEN: usize = DSS_MAX_SEGMENT_LEN as usize;
+// The bytes of a continuation's length.
+pub const DSS_CONTINUATION_HEADER_LEN: usize = 2;
+// The payload bytes of a full first segment: 32,761.
+pub const DSS_FIRST_PAYLOAD_LEN: usize = DSS_FULL_SEGMENT_LEN - DSS_HEADER_LEN;
+// The payload bytes of a full continuation: 32,765.
+pub const DSS_CONTINUATION_PAYLOAD_LEN: usize = DSS_FULL_SEGMENT_LEN - DSS_CONTINUATION_HEADER_LEN;
 // The numbers of the types go from 1 to this one.
 pub const DSS_LAST_TYPE: u8 = 5;
 
@@ -63,7 +73,7 @@ pub enum Chunk {
 pub fn decode_dss_length(raw_length: u16) -> u16
     ensures { λ r. ⌜ r ≡ lengthOf «raw_length» ⌝ }
 {
-    if raw_length == 0xFFFF {
+    if raw_length == DSS_CONTINUED {
         DSS_MAX_SEGMENT_LEN
     } else {
         raw_length
@@ -74,7 +84,7 @@ pub fn decode_dss_length(raw_length: u16) -> u16
 pub fn is_full_continuation_len(raw_length: u16) -> bool
     ensures { λ r. ⌜ r ≡ isFull «raw_length» ⌝ }
 {
-    if raw_length == 0xFFFF {
+    if raw_length == DSS_CONTINUED {
         return true;
     }
     raw_length == 0x7FFF

@@ -13,7 +13,8 @@ use Rattle.dss_measure.specs.declared.Measured.{Measured}
 use Rattle.dss_measure.specs.declared.Measured.the-variants.{Frame, Refused}
 use Rattle.dss_measure.specs.declared.Extent.the-variants.{Frame as Spans, Refused as NoExtent}
 use Rattle.dss_measure.specs.Measure.{measuredAt, extentOf}
-use Rattle.dss_measure.specs.Glance.{headed, apart-nothing, apart-clear, Lone}
+use Rattle.dss_measure.proofs.GlanceLaws.{headed, apart-nothing, apart-clear}
+use Rattle.dss_measure.specs.inner.Glancing.{Lone}
 
 -- a measure: the head's length, type, chained and same-correlation flags and correlation; payload length, segments, end
 frame : ℕ → DssType → Bool → ℕ → ℕ → ℕ → ℕ → Measured

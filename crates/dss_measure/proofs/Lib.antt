@@ -1,2 +1,10 @@
+pub mod Absorbing
+pub mod Extents
+pub mod GlanceLaws
+pub mod LookLaws
+pub mod Measures
+pub mod Readings
+pub mod SoFarLaws
+pub mod WalkLaws
 pub mod Unique
 pub mod Cases

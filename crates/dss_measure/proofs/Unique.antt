@@ -18,7 +18,8 @@ use Rattle.dss_measure.specs.declared.FrameMeasure.{FrameMeasure}
 use Rattle.dss_measure.specs.declared.Look.{Look}
 use Rattle.dss_measure.specs.declared.Measured.{Measured}
 use Rattle.dss_measure.specs.declared.Walked.{Walked}
-use Rattle.dss_measure.specs.Measure.{walkedAt, lookedOf, measuredAt, extentOf}
+use Rattle.dss_measure.specs.inner.Walking.{walkedAt, lookedOf}
+use Rattle.dss_measure.specs.Measure.{measuredAt, extentOf}
 use Rattle.dss_measure.proofs.FrameMeasure.record.Reads as frame-record
 use Rattle.dss_measure.proofs.head_at.Reads as head-at
 use Rattle.dss_measure.proofs.chunk_under.Reads as chunk-under

@@ -6,12 +6,13 @@ ghost use Rattle.wire.specs.Bytes.{be16, marker};
 ghost use Rattle.dss_head.specs.declared.DssType.the-variants.{Object as asObject};
 ghost use Rattle.dss_head.specs.declared.HeadFound.the-variants.{Head};
 ghost use Rattle.dss_frame.specs.Reading.{follows, ownObject, droppedAt, refusal, lookAt};
-ghost use Rattle.dss_measure.specs.Measure.{lookedOf};
+ghost use Rattle.dss_measure.specs.inner.Walking.{lookedOf};
 use super::Look;
 use super::left;
 use answer::Refusal;
 use answer::Refused;
 use dss_frame::Rules;
+use dss_head::DSS_CONTINUED;
 use dss_head::DSS_HEADER_LEN;
 use dss_head::DssHeader;
 use dss_head::DssType;
@@ -111,7 +112,7 @@ pub(crate) fn look_head(
     ensures { λ r. ⌜ r ≡ lookedOf (lookAt rules (now (run .entry)) first extended at (Head header)) ⌝ }
 {
     let raw = wire::u16_at(run, at);
-    if raw == 0xFFFF {
+    if raw == DSS_CONTINUED {
         return Look::Finished;
     }
     let flags = header.flags;

@@ -3,8 +3,9 @@
 ghost use mathlib.Core.Path.{_≡_};
 ghost use mathlib.Core.Bool.{true};
 ghost use Prim.Native.Nat.{_<_};
-ghost use Rattle.dss_measure.specs.Glance.{Headed, Apart, Lone};
+ghost use Rattle.dss_measure.specs.inner.Glancing.{Headed, StandsApart, Lone};
 use super::left;
+use dss_head::DSS_CONTINUED;
 use dss_head::DSS_HEADER_LEN;
 use dss_head::DSS_LAST_TYPE;
 use dss_head::DSS_MAGIC;
@@ -29,7 +30,7 @@ pub(crate) fn has_head(run: &[u8], at: usize) -> bool
 // Whether nothing that stands at a place can belong to a frame before it: fewer than six bytes are left, or a head has same
 // correlation clear.
 pub(crate) fn stands_apart(run: &[u8], at: usize) -> bool
-    ensures { λ r. ⌜ (r ≡ true → Apart (now (run .entry)) at) ⌝ }
+    ensures { λ r. ⌜ (r ≡ true → StandsApart (now (run .entry)) at) ⌝ }
 {
     if left(run, at) < DSS_HEADER_LEN {
         return true;
@@ -48,7 +49,7 @@ pub(crate) fn lone_len(run: &[u8], at: usize) -> usize
         return 0;
     }
     let raw = wire::u16_at(run, at);
-    if raw == 0xFFFF {
+    if raw == DSS_CONTINUED {
         return 0;
     }
     let len = raw as usize;

@@ -11,26 +11,23 @@ ghost use Rattle.dss_head.specs.Heads.{headAt};
 ghost use Rattle.dss_frame.specs.Rules.{chunkUnder};
 ghost use Rattle.dss_frame.specs.Segments.{first, continuations};
 ghost use Rattle.dss_frame.specs.Reading.{look, withChained, absorb};
-ghost use Rattle.dss_measure.specs.Measure.{measuredAt, walkedOf, walkedAt, adds, lookedOf, measuredOf, measuredRecord, extentOf};
+ghost use Rattle.dss_measure.specs.Measure.{measuredAt, measuredOf, measuredRecord, extentOf};
+ghost use Rattle.dss_measure.specs.inner.Walking.{walkedOf, walkedAt, adds, lookedOf};
 use answer::Refusal;
 use answer::Refused;
 use dss_frame::DssFrame;
 use dss_frame::Rules;
 use dss_head::Chunk;
+use dss_head::DSS_CONTINUATION_HEADER_LEN;
+use dss_head::DSS_CONTINUATION_PAYLOAD_LEN;
+use dss_head::DSS_CONTINUED;
+use dss_head::DSS_FIRST_PAYLOAD_LEN;
+use dss_head::DSS_FULL_SEGMENT_LEN;
 use dss_head::DSS_HEADER_LEN;
 use dss_head::DSS_MAX_SEGMENT_LEN;
 use dss_head::DssHeader;
 use dss_head::DssType;
 use dss_head::HeadFound;
-
-// The bytes of a full segment.
-const DSS_FULL_LEN: usize = 32767;
-// Those of its payload behind a head.
-const DSS_FIRST_PAYLOAD_LEN: usize = 32761;
-// Those of its payload behind a continuation's length, which has two.
-const DSS_CONTINUATION_PAYLOAD_LEN: usize = 32765;
-
-const DSS_CONTINUATION_HEADER_LEN: usize = 2;
 
 // A frame before its payload is taken: its head, with the last segment's chained flag, its payload's length, its segments,
 // and the byte after its last.
@@ -95,7 +92,7 @@ pub enum Look {
 }
 
 // A payload so far: its length and its first two bytes, 0 where there is none.
-pub struct Sofar {
+pub struct PayloadSoFar {
     pub len: usize,
     pub first: u8,
     pub second: u8,
@@ -182,10 +179,10 @@ pub(crate) fn walk_on(
                 };
             }
             Chunk::Full => {
-                if there < DSS_FULL_LEN {
+                if there < DSS_FULL_SEGMENT_LEN {
                     break Walked::Short;
                 }
-                at += DSS_FULL_LEN;
+                at += DSS_FULL_SEGMENT_LEN;
                 segments += 1;
                 payload_len += DSS_CONTINUATION_PAYLOAD_LEN;
             }
@@ -203,11 +200,17 @@ pub fn walk_frame(rules: Rules, run: &[u8], at: usize) -> Walked
         return Walked::Short;
     }
     let raw = wire::u16_at(run, at);
-    if raw == 0xFFFF {
-        if there < DSS_FULL_LEN {
+    if raw == DSS_CONTINUED {
+        if there < DSS_FULL_SEGMENT_LEN {
             return Walked::Short;
         }
-        return walk_on(rules, run, at + DSS_FULL_LEN, 1, DSS_FIRST_PAYLOAD_LEN);
+        return walk_on(
+            rules,
+            run,
+            at + DSS_FULL_SEGMENT_LEN,
+            1,
+            DSS_FIRST_PAYLOAD_LEN,
+        );
     }
     let seg_len = raw as usize;
     if there < seg_len {
@@ -338,7 +341,7 @@ pub(crate) fn measure_whole(
                 let why = Refusal::LengthTooShort(raw);
                 return Measured::Refused(Refused { why, place: at });
             }
-            if raw == 0xFFFF {
+            if raw == DSS_CONTINUED {
                 return Measured::Frame(FrameMeasure {
                     header,
                     payload_len,
@@ -356,11 +359,7 @@ pub fn measure(rules: Rules, run: &[u8], at: usize) -> Measured
     ensures { λ r. ⌜ r ≡ measuredAt rules (now (run .entry)) at ⌝ }
 {
     if run.len() < at {
-        let why = Refusal::OutOfBounds {
-            mark: at,
-            length: run.len(),
-        };
-        return Measured::Refused(Refused { why, place: at });
+        return Measured::Refused(Refused::out_of_bounds(at, run.len()));
     }
     match walk_frame(rules, run, at) {
         Walked::Short => {

@@ -4,8 +4,8 @@ ghost use Prim.Native.Nat.{ℕ, _≤_};
 ghost use mathlib.Core.List.{List, _++_};
 ghost use lib.ListN.{length, getD};
 ghost use Rattle.wire.specs.Bytes.{part};
-ghost use Rattle.dss_measure.specs.Measure.{sofarOf, extendedBy};
-use super::Sofar;
+ghost use Rattle.dss_measure.specs.inner.Walking.{payloadSoFar, extendedBy};
+use super::PayloadSoFar;
 
 // A byte of a part of a run; 0 beyond the part.
 pub(crate) fn part_byte(run: &[u8], from: usize, end: usize, i: usize) -> u8
@@ -19,16 +19,16 @@ pub(crate) fn part_byte(run: &[u8], from: usize, end: usize, i: usize) -> u8
 }
 
 // The payload so far, with a part of the run behind it.
-pub(crate) fn grown(sofar: Sofar, run: &[u8], from: usize, end: usize) -> Sofar
+pub(crate) fn grown(sofar: PayloadSoFar, run: &[u8], from: usize, end: usize) -> PayloadSoFar
     requires { ⌜ (sofar .len ≤ from) × (from ≤ end) × (end ≤ length (now run)) ⌝ }
-    ensures { λ r. ⌜ ((p : List ℕ) → sofar ≡ sofarOf p → r ≡ sofarOf (p ++ part (now (run .entry)) from end)) ⌝ }
+    ensures { λ r. ⌜ ((p : List ℕ) → sofar ≡ payloadSoFar p → r ≡ payloadSoFar (p ++ part (now (run .entry)) from end)) ⌝ }
 {
     let len = sofar.len;
     let more = end - from;
     if len == 0 {
         let first = part_byte(run, from, end, 0);
         let second = part_byte(run, from, end, 1);
-        return Sofar {
+        return PayloadSoFar {
             len: more,
             first,
             second,
@@ -36,13 +36,13 @@ pub(crate) fn grown(sofar: Sofar, run: &[u8], from: usize, end: usize) -> Sofar
     }
     if len == 1 {
         let second = part_byte(run, from, end, 0);
-        return Sofar {
+        return PayloadSoFar {
             len: 1 + more,
             first: sofar.first,
             second,
         };
     }
-    Sofar {
+    PayloadSoFar {
         len: len + more,
         first: sofar.first,
         second: sofar.second,
@@ -50,11 +50,11 @@ pub(crate) fn grown(sofar: Sofar, run: &[u8], from: usize, end: usize) -> Sofar
 }
 
 // A payload of one part of the run.
-pub(crate) fn started(run: &[u8], from: usize, end: usize) -> Sofar
+pub(crate) fn started(run: &[u8], from: usize, end: usize) -> PayloadSoFar
     requires { ⌜ (from ≤ end) × (end ≤ length (now run)) ⌝ }
-    ensures { λ r. ⌜ r ≡ sofarOf (part (now (run .entry)) from end) ⌝ }
+    ensures { λ r. ⌜ r ≡ payloadSoFar (part (now (run .entry)) from end) ⌝ }
 {
-    let none = Sofar {
+    let none = PayloadSoFar {
         len: 0,
         first: 0,
         second: 0,
@@ -63,7 +63,7 @@ pub(crate) fn started(run: &[u8], from: usize, end: usize) -> Sofar
 }
 
 // Whether a payload so far starts an extended object.
-pub(crate) fn starts_extended(sofar: Sofar) -> bool
+pub(crate) fn starts_extended(sofar: PayloadSoFar) -> bool
     ensures { λ r. ⌜ r ≡ extendedBy sofar ⌝ }
 {
     if sofar.len < 4 {

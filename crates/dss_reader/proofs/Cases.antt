@@ -16,14 +16,14 @@ use Rattle.dss_frame.specs.declared.Rules.the-variants.{Reader}
 use Rattle.dss_frame.specs.Segments.{payloadOf, endOf}
 use Rattle.dss_frame.specs.Reading.{readAt}
 use Rattle.dss_frame.specs.Frames.{allFrames}
-use Rattle.dss_frame.specs.Records.{payloadsOf, recordsOf}
+use Rattle.dss_frame.specs.FrameRecords.{payloadsOf, frameRecords}
 use Rattle.dss_reader.specs.declared.FrameEnd.the-variants.{End, Refused as NoEnd}
 use Rattle.dss_reader.specs.declared.FrameRead.{FrameRead}
 use Rattle.dss_reader.specs.declared.FrameRead.the-variants.{Frame as Gives, Refused as NotRead}
 use Rattle.dss_reader.specs.declared.FramesRead.{FramesRead}
 use Rattle.dss_reader.specs.declared.FramesRead.the-variants.{Frames, Refused as NoneRead}
 use Rattle.dss_take.specs.Take.{roomRead}
-use Rattle.dss_reader.specs.Reader.{standsAt, frameEnd, given, givenAll, roomAll, rowAll}
+use Rattle.dss_reader.specs.Reader.{standsAt, frameEnd, givenFrame, givenFrames, roomAll, rowAll}
 
 -- ---- the runs
 
@@ -72,7 +72,7 @@ ends = (refl, refl, refl, refl, refl, refl)
 
 -- one frame, in rooms with a byte more and a byte less
 next : List ℕ → ℕ → ℕ → FrameRead
-next s p size = given s p size (readAt Reader s p)
+next s p size = givenFrame s p size (readAt Reader s p)
 
 frames : (next p9 0 3 ≡ Gives (frame 7 Object true 1 0 2 2 0 14) (standsAt 14))
     × (roomRead p9 (replicate 3 9) (readAt Reader p9 0) ≡ 0xAA ∷ 0xBB ∷ 9 ∷ [])
@@ -87,7 +87,7 @@ frames = (refl, refl, refl, refl, refl, refl, refl, refl)
 
 -- all frames: what stands behind the last, a row and a room with more than is needed, either too small, and 2 before 9
 all : List ℕ → ℕ → ℕ → ℕ → FramesRead
-all s p size rows = givenAll s p size rows (allFrames s p)
+all s p size rows = givenFrames s p size rows (allFrames s p)
 
 both : (all two 0 4 2 ≡ Frames 2 4 (standsAt 16))
     × (all (two ++ (0x00 ∷ 0x06 ∷ 0xD0 ∷ [])) 0 4 2 ≡ Frames 2 4 (standsAt 16))
@@ -101,7 +101,7 @@ both : (all two 0 4 2 ≡ Frames 2 4 (standsAt 16))
     × (rowAll two 0 3 (blank ∷ blank ∷ []) (allFrames two 0) ≡ blank ∷ blank ∷ [])
     × (all (two ++ replicate 6 0) 0 0 0 ≡ NoneRead (record { why = InvalidMagic 0; place = 16 }) (standsAt 16))
     × (all two 17 0 0 ≡ NoneRead (record { why = OutOfBounds 17 16; place = 17 }) (standsAt 17))
-unfolding p2 two all frame blank readAt allFrames payloadOf payloadsOf recordsOf endOf splice
+unfolding p2 two all frame blank readAt allFrames payloadOf payloadsOf frameRecords endOf splice
 both = (refl, refl, refl, refl, refl, refl, refl, refl, refl, refl, refl, refl)
 
 -- what isn't read yet of a run of two bytes, at 1, at its end and beyond it: its last byte, and none at its end

@@ -26,7 +26,7 @@ use Rattle.dss_reader.specs.declared.FrameEnd.{FrameEnd}
 use Rattle.dss_reader.specs.declared.FrameRead.{FrameRead}
 use Rattle.dss_reader.specs.declared.FramesRead.{FramesRead}
 use Rattle.dss_take.specs.Take.{roomRead}
-use Rattle.dss_reader.specs.Reader.{standsAt, frameEnd, isEnd, given, givenAll, roomAll, rowAll, ReadAllFrames}
+use Rattle.dss_reader.specs.Reader.{standsAt, frameEnd, isEnd, givenFrame, givenFrames, roomAll, rowAll, ReadAllFrames}
 use Rattle.dss_reader.proofs.DssReader.new.Reads as new
 use Rattle.dss_reader.proofs.DssReader.remaining.Reads as remaining
 use Rattle.dss_reader.proofs.DssReader.into_remaining.Reads as into-remaining
@@ -35,8 +35,8 @@ use Rattle.dss_reader.proofs.DssReader.has_complete_frame.Reads as has-
 use Rattle.dss_reader.proofs.DssReader.first_complete_frame_len.Reads as first-complete-frame-len
 use Rattle.dss_reader.proofs.DssReader.next_frame.Reads as next-frame
 use Rattle.dss_reader.proofs.measure_frames.Reads as measure-frames
-use Rattle.dss_reader.proofs.read_all.Reads as read-all
-use Rattle.dss_reader.proofs.records_of.Reads as records-of
+use Rattle.dss_reader.proofs.gather_frames.Reads as read-all
+use Rattle.dss_reader.proofs.records_in.Reads as records-in
 use Rattle.dss_reader.proofs.DssReader.read_all_frames as read-all-frames
 
 pub new-one : (κs : Lfts 0) (r r′ : DssReader) → new.Post κs tt r tt → new.Post κs tt r′ tt → r ≡ r′
@@ -82,7 +82,7 @@ module _ (κs : Lfts 1) (run : RefT (List ℕ)) (at size rows : ℕ) where
   pub measure-frames-one : (r r′ : FramesRead) → measure-frames.Post κs (run, (at, (size, (rows, tt)))) r (run, (at, (size, (rows, tt)))) → measure-frames.Post κs (run, (at, (size, (rows, tt)))) r′ (run, (at, (size, (rows, tt)))) → r ≡ r′
   measure-frames-one r r′ p q = p ∙ sym q
 
-  pub measure-frames-some : measure-frames.Post κs (run, (at, (size, (rows, tt)))) (givenAll (run .now) at size rows (allFrames (run .now) at)) (run, (at, (size, (rows, tt))))
+  pub measure-frames-some : measure-frames.Post κs (run, (at, (size, (rows, tt)))) (givenFrames (run .now) at size rows (allFrames (run .now) at)) (run, (at, (size, (rows, tt))))
   measure-frames-some = refl
 
 module _ (κs : Lfts 2) (run room : RefT (List ℕ)) (at rows : ℕ) where
@@ -92,8 +92,8 @@ module _ (κs : Lfts 2) (run room : RefT (List ℕ)) (at rows : ℕ) where
       → (r ≡ r′) × (l ≡ l′)
   read-all-one r r′ l l′ p q = (p .answers ∙ sym (q .answers), p .room-is ∙ sym (q .room-is))
 
-pub records-of-one : (κs : Lfts 0) (read : FramesRead) (r r′ : ℕ) → records-of.Post κs (read, tt) r (read, tt) → records-of.Post κs (read, tt) r′ (read, tt) → r ≡ r′
-records-of-one κs read r r′ p q = p ∙ sym q
+pub records-in-one : (κs : Lfts 0) (read : FramesRead) (r r′ : ℕ) → records-in.Post κs (read, tt) r (read, tt) → records-in.Post κs (read, tt) r′ (read, tt) → r ≡ r′
+records-in-one κs read r r′ p q = p ∙ sym q
 
 module _ (κs : Lfts 2) (d : DssReader) (run room : RefT (List ℕ)) where
   -- the answer holds the position after
@@ -103,7 +103,7 @@ module _ (κs : Lfts 2) (d : DssReader) (run room : RefT (List ℕ)) where
       → (r ≡ r′) × (l ≡ l′)
   next-frame-one r r′ l l′ p q = (p .answers ∙ sym (q .answers), p .room-is ∙ sym (q .room-is))
 
-  pub next-frame-some : next-frame.Post κs (d, (run, (room, tt))) (given (run .now) (d .position) (length (room .now)) (readAt Reader (run .now) (d .position)))
+  pub next-frame-some : next-frame.Post κs (d, (run, (room, tt))) (givenFrame (run .now) (d .position) (length (room .now)) (readAt Reader (run .now) (d .position)))
       (d, (run, (at-last room (roomRead (run .now) (room .now) (readAt Reader (run .now) (d .position))), tt)))
   next-frame-some = record { answers = refl; room-is = refl }
 
@@ -116,5 +116,5 @@ module _ (s : List ℕ) (p : ℕ) (room : List ℕ) (row : List DssFrame) where
   pub read-all-frames-one : (r r′ : FramesRead) (l l′ : List ℕ) (k k′ : List DssFrame) → ReadAllFrames s p room row r l k → ReadAllFrames s p room row r′ l′ k′ → (r ≡ r′) × (l ≡ l′) × (k ≡ k′)
   read-all-frames-one r r′ l l′ k k′ p q = (p .answers ∙ sym (q .answers), p .room-is ∙ sym (q .room-is), p .row-is ∙ sym (q .row-is))
 
-  pub read-all-frames-some : ReadAllFrames s p room row (givenAll s p (length room) (length row) (allFrames s p)) (roomAll s room (length row) (allFrames s p)) (rowAll s p (length room) row (allFrames s p))
+  pub read-all-frames-some : ReadAllFrames s p room row (givenFrames s p (length room) (length row) (allFrames s p)) (roomAll s room (length row) (allFrames s p)) (rowAll s p (length room) row (allFrames s p))
   read-all-frames-some = record { answers = refl; room-is = refl; row-is = refl }

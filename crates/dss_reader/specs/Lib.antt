@@ -1,5 +1,2 @@
 pub mod Reader
-pub mod FrameEnds
-pub mod Measuring
-pub mod Taking
-pub mod Gathered
+pub mod inner

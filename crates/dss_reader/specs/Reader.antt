@@ -11,7 +11,7 @@ use Rattle.answer.specs.declared.Refused.{Refused}
 use Rattle.dss_frame.specs.Segments.{Walk, payloadOf, endOf, frameWalk}
 use Rattle.dss_frame.specs.Reading.{Frame, Read, frame, refused, readAt, ifWhole, positionLeft}
 use Rattle.dss_frame.specs.Frames.{AllRead, frames, refusedAll, allFrames}
-use Rattle.dss_frame.specs.Records.{recordOf, recordsOf, payloadsOf}
+use Rattle.dss_frame.specs.FrameRecords.{frameRecord, frameRecords, payloadsOf}
 use Rattle.dss_frame.specs.declared.DssFrame.{DssFrame}
 use Rattle.dss_frame.specs.declared.Rules.the-variants.{Reader}
 use Rattle.dss_measure.specs.Measure.{measuredRecord}
@@ -52,14 +52,14 @@ isEnd (NoEnd r) = false
 -- ---- one frame
 
 -- "Last comes 9, position unmoved"; "`next_frame` hands its one record back by value and needs no row"
-abbrev pub given : List ℕ → ℕ → ℕ → Read → FrameRead
-given s p size (refused r) = NotRead r (leftAt p r)
-given s p size (frame f) =
-    pick (leb (length (payloadOf s (f .segments))) size) (Gives (recordOf s p 0 f) (standsAt (endOf p (f .segments))))
+abbrev pub givenFrame : List ℕ → ℕ → ℕ → Read → FrameRead
+givenFrame s p size (refused r) = NotRead r (leftAt p r)
+givenFrame s p size (frame f) =
+    pick (leb (length (payloadOf s (f .segments))) size) (Gives (frameRecord s p 0 f) (standsAt (endOf p (f .segments))))
     (NotRead (noRoom p (length (payloadOf s (f .segments))) 0) (standsAt p))
 
 pub record NextFrame (s : List ℕ) (p : ℕ) (room : List ℕ) (r : FrameRead) (after : List ℕ) : Type 0 where
-  pub answers : r ≡ given s p (length room) (readAt Reader s p)
+  pub answers : r ≡ givenFrame s p (length room) (readAt Reader s p)
   pub room-is : after ≡ roomRead s room (readAt Reader s p)
 
 -- W-208: the reader's answer, of what taking the frame at p answered. That is `next_frame`'s, of what was taken under the reader's rules
@@ -74,9 +74,9 @@ abbrev pub framesFit : List ℕ → List Frame → ℕ → ℕ → Bool
 framesFit s fs size rows = bothFit (length (payloadsOf s fs)) size (length fs) rows
 
 -- "At 2, 3, 7 the position stands at the refused head; at 9 and 10 where it was"
-abbrev pub givenAll : List ℕ → ℕ → ℕ → ℕ → AllRead → FramesRead
-givenAll s p size rows (refusedAll r) = NoneRead r (leftAt p r)
-givenAll s p size rows (frames fs q) =
+abbrev pub givenFrames : List ℕ → ℕ → ℕ → ℕ → AllRead → FramesRead
+givenFrames s p size rows (refusedAll r) = NoneRead r (leftAt p r)
+givenFrames s p size rows (frames fs q) =
     pick (framesFit s fs size rows) (Frames (length fs) (length (payloadsOf s fs)) (standsAt q))
     (NoneRead (noRoom p (length (payloadsOf s fs)) (length fs)) (standsAt p))
 
@@ -87,9 +87,19 @@ roomAll s room rows (frames fs q) = landed (framesFit s fs (length room) rows) r
 
 abbrev pub rowAll : List ℕ → ℕ → ℕ → List DssFrame → AllRead → List DssFrame
 rowAll s p size row (refusedAll r) = row
-rowAll s p size row (frames fs q) = landed (framesFit s fs size (length row)) row (recordsOf s p 0 fs)
+rowAll s p size row (frames fs q) = landed (framesFit s fs size (length row)) row (frameRecords s p 0 fs)
 
 pub record ReadAllFrames (s : List ℕ) (p : ℕ) (room : List ℕ) (row : List DssFrame) (r : FramesRead) (roomAfter : List ℕ) (rowAfter : List DssFrame) : Type 0 where
-  pub answers : r ≡ givenAll s p (length room) (length row) (allFrames s p)
+  pub answers : r ≡ givenFrames s p (length room) (length row) (allFrames s p)
   pub room-is : roomAfter ≡ roomAll s room (length row) (allFrames s p)
   pub row-is : rowAfter ≡ rowAll s p (length room) row (allFrames s p)
+
+-- the answer for a row of so many records, and what the room then holds
+pub record GathersFrames (s : List ℕ) (p : ℕ) (room : List ℕ) (rows : ℕ) (r : FramesRead) (after : List ℕ) : Type 0 where
+  pub answers : r ≡ givenFrames s p (length room) rows (allFrames s p)
+  pub room-is : after ≡ roomAll s room rows (allFrames s p)
+
+-- how many records an answer has
+abbrev pub recordsIn : FramesRead → ℕ
+recordsIn (Frames count bytes reader) = count
+recordsIn (NoneRead r reader) = 0

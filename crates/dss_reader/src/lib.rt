@@ -6,10 +6,9 @@ ghost use Rattle.wire.specs.Bytes.{splice};
 ghost use Rattle.wire.specs.Parts.{RestAt};
 ghost use Rattle.answer.specs.Rooms.{noRoom};
 ghost use Rattle.dss_frame.specs.Frames.{allFrames};
-ghost use Rattle.dss_reader.specs.Reader.{standsAt, leftAt, frameEnd, isEnd, NextFrame, givenAll, ReadAllFrames};
-ghost use Rattle.dss_reader.specs.Gathered.{Gathers, recordsIn};
-ghost use Rattle.dss_reader.specs.Measuring.{measuredAll};
-ghost use Rattle.dss_reader.specs.Taking.{allPayloads, Fits};
+ghost use Rattle.dss_reader.specs.Reader.{standsAt, leftAt, frameEnd, isEnd, NextFrame, givenFrames, ReadAllFrames, GathersFrames, recordsIn};
+ghost use Rattle.dss_reader.specs.inner.MeasuredAll.{measuredFrames};
+ghost use Rattle.dss_reader.specs.inner.TakingAll.{allPayloads, FitsAll};
 ghost use Rattle.dss_reader.specs.declared.FramesRead;
 use answer::Refusal;
 use answer::Refused;
@@ -61,11 +60,7 @@ pub(crate) fn frame_end(run: &[u8], at: usize) -> FrameEnd
     ensures { λ r. ⌜ r ≡ frameEnd (now (run .entry)) at ⌝ }
 {
     if run.len() < at {
-        let why = Refusal::OutOfBounds {
-            mark: at,
-            length: run.len(),
-        };
-        return FrameEnd::Refused(Refused { why, place: at });
+        return FrameEnd::Refused(Refused::out_of_bounds(at, run.len()));
     }
     match dss_measure::walk_frame(Rules::Reader, run, at) {
         Walked::Whole {
@@ -99,7 +94,7 @@ pub(crate) fn left_at(at: usize, refused: Refused) -> DssReader
 
 // All frames from a place on: reads until 1 or 16. Every other refusal but 9.
 pub(crate) fn measure_all(run: &[u8], from: usize) -> AllMeasured
-    ensures { λ r. ⌜ r ≡ measuredAll (now (run .entry)) «from» ⌝ }
+    ensures { λ r. ⌜ r ≡ measuredFrames (now (run .entry)) «from» ⌝ }
 {
     let mut at = from;
     let mut count = 0;
@@ -128,7 +123,7 @@ pub(crate) fn measure_all(run: &[u8], from: usize) -> AllMeasured
 
 // The payloads of all frames from a place on, end to end at the room's start.
 pub(crate) fn take_all(run: &[u8], from: usize, room: &mut [u8])
-    requires { ⌜ Fits (now run) «from» (now room) ⌝ }
+    requires { ⌜ FitsAll (now run) «from» (now room) ⌝ }
     ensures { λ _. ⌜ now (room .exit) ≡ splice (now (room .entry)) 0 (allPayloads (now (run .entry)) (allFrames (now (run .entry)) «from»)) ⌝ }
 {
     let mut at = from;
@@ -150,14 +145,14 @@ pub(crate) fn take_all(run: &[u8], from: usize, room: &mut [u8])
 pub(crate) fn no_room(at: usize, bytes: usize, records: usize) -> FramesRead
     ensures { λ r. ⌜ r ≡ FramesRead.Refused (noRoom at bytes records) (standsAt at) ⌝ }
 {
-    let why = Refusal::NoRoom { bytes, records };
-    FramesRead::Refused(Refused { why, place: at }, DssReader { position: at })
+    let refused = Refused::no_room(bytes, records, at);
+    FramesRead::Refused(refused, DssReader { position: at })
 }
 
 // What reading all frames from a place on answers, for a room of so many bytes and a row of so many records: all refusals, 9
 // last. Touches nothing.
 pub fn measure_frames(run: &[u8], at: usize, size: usize, rows: usize) -> FramesRead
-    ensures { λ r. ⌜ r ≡ givenAll (now (run .entry)) at size rows (allFrames (now (run .entry)) at) ⌝ }
+    ensures { λ r. ⌜ r ≡ givenFrames (now (run .entry)) at size rows (allFrames (now (run .entry)) at) ⌝ }
 {
     match measure_all(run, at) {
         AllMeasured::Refused(refused) => {
@@ -181,8 +176,8 @@ pub fn measure_frames(run: &[u8], at: usize, size: usize, rows: usize) -> Frames
 }
 
 // The same, and the payloads in the room where all fits.
-pub fn read_all(run: &[u8], at: usize, room: &mut [u8], rows: usize) -> FramesRead
-    ensures { λ r. ⌜ Gathers (now (run .entry)) at (now (room .entry)) rows r (now (room .exit)) ⌝ }
+pub fn gather_frames(run: &[u8], at: usize, room: &mut [u8], rows: usize) -> FramesRead
+    ensures { λ r. ⌜ GathersFrames (now (run .entry)) at (now (room .entry)) rows r (now (room .exit)) ⌝ }
 {
     let read = measure_frames(run, at, room.len(), rows);
     match read {
@@ -199,7 +194,7 @@ pub fn read_all(run: &[u8], at: usize, room: &mut [u8], rows: usize) -> FramesRe
 }
 
 // How many records an answer has.
-pub fn records_of(read: FramesRead) -> usize
+pub fn records_in(read: FramesRead) -> usize
     ensures { λ r. ⌜ r ≡ recordsIn read ⌝ }
 {
     match read {
@@ -288,8 +283,8 @@ impl DssReader {
         ensures { λ r. ⌜ ReadAllFrames (now (run .entry)) (self .position) (now (room .entry)) (now (row .entry)) r (now (room .exit)) (now (row .exit)) ⌝ }
     {
         let at = self.position;
-        let read = read_all(run, at, room, row.len());
-        dss_row::fill_rows(run, at, records_of(read), row);
+        let read = gather_frames(run, at, room, row.len());
+        dss_row::fill_rows(run, at, records_in(read), row);
         read
     }
 }

@@ -1,4 +1,1 @@
-pub mod Rows
-pub mod Thin
-pub mod Measures
-pub mod RowLaws
+pub mod inner

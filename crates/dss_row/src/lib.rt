@@ -3,17 +3,12 @@ ghost use mathlib.Core.Path.{_≡_};
 ghost use Prim.Native.Nat.{_≤_};
 ghost use lib.ListN.{length};
 ghost use Rattle.wire.specs.Bytes.{splice};
-ghost use Rattle.dss_row.specs.Rows.{recordAt, startsAt, recordsFrom};
+ghost use Rattle.dss_row.specs.inner.FrameRows.{recordAt, recordsFrom};
+ghost use Rattle.dss_frame.specs.inner.RowStart.{startsAt};
 use dss_frame::DssFrame;
+use dss_frame::RowPlace;
 use dss_frame::Rules;
 use dss_measure::Measured;
-
-// Where a record's frame starts in the run, where its payload lies in the room, and how many records are still to come.
-pub struct RowPlace {
-    pub at: usize,
-    pub payload_at: usize,
-    pub left: usize,
-}
 
 // What stands at a place: a record and the place behind it, or none.
 pub enum RecordFound {

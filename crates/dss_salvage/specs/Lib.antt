@@ -1,4 +1,2 @@
-pub mod SalvageCall
-pub mod Steps
-pub mod Stepping
-pub mod Measuring
+pub mod SalvageEntries
+pub mod inner

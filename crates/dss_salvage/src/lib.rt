@@ -1,8 +1,8 @@
 // The salvage reading, one step of its walk and its measure: document 01, "Salvage reading". Touches nothing.
 ghost use mathlib.Core.Path.{_≡_};
 ghost use Rattle.dss_frame.specs.Salvage.{salvaged};
-ghost use Rattle.dss_salvage.specs.Steps.{overAt, stepAt};
-ghost use Rattle.dss_salvage.specs.Measuring.{salvagingOf};
+ghost use Rattle.dss_salvage.specs.inner.SalvageSteps.{overAt, stepAt};
+ghost use Rattle.dss_salvage.specs.inner.SalvageMeasure.{salvagingOf};
 use answer::Refused;
 use dss_frame::DssFrame;
 use dss_frame::Rules;
@@ -80,7 +80,7 @@ pub fn step_over(run: &[u8], at: usize, refused: Refused) -> Step
 }
 
 // The step of the walk at a place of a run.
-pub fn entry_at(run: &[u8], at: usize) -> Step
+pub fn step_at(run: &[u8], at: usize) -> Step
     ensures { λ r. ⌜ r ≡ stepAt (now (run .entry)) at ⌝ }
 {
     match dss_measure::measure(Rules::Salvage, run, at) {
@@ -101,7 +101,7 @@ pub fn measure_salvage(run: &[u8]) -> Salvaging
     let mut count = 0;
     let mut bytes = 0;
     loop {
-        match entry_at(run, at) {
+        match step_at(run, at) {
             Step::Frame(measure) => {
                 count += 1;
                 bytes += measure.payload_len;

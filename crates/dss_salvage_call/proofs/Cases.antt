@@ -15,7 +15,8 @@ use Rattle.dss_salvage.specs.declared.SalvageEntry.{SalvageEntry}
 use Rattle.dss_salvage.specs.declared.Entry.the-variants.{Frame, Refused as Refuses}
 use Rattle.dss_salvage.specs.declared.Salvaged.{Salvaged}
 use Rattle.dss_salvage.specs.declared.Salvaged.the-variants.{Done, Refused as NotSalvaged}
-use Rattle.dss_salvage.specs.SalvageCall.{salvagedBytes, salvagedRow, entriesFit, given}
+use Rattle.dss_salvage.specs.SalvageEntries.{salvagedBytes, salvagedRow}
+use Rattle.dss_salvage_call.specs.SalvageCall.{entriesFit, givenEntries}
 
 -- ---- the runs
 
@@ -63,7 +64,7 @@ blank = framed 0 Communication true 9 9 9 9 9 9
 -- ---- what is answered, and what room and row then hold
 
 answer : List ℕ → ℕ → ℕ → Salvaged
-answer s size rows = given s size rows (salvaged s)
+answer s size rows = givenEntries s size rows (salvaged s)
 
 room-of : List ℕ → List ℕ → ℕ → List ℕ
 room-of s room rows = landed (entriesFit s (salvaged s .entries) (length room) rows) room (salvagedBytes s (salvaged s .entries))

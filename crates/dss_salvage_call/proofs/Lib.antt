@@ -1,2 +1,4 @@
+pub mod GatheredEntries
+pub mod LayingEntries
 pub mod Unique
 pub mod Cases

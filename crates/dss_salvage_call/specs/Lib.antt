@@ -1,2 +1,2 @@
-pub mod Gathered
-pub mod Laying
+pub mod SalvageCall
+pub mod inner

@@ -3,9 +3,8 @@ ghost use mathlib.Core.Path.{_≡_};
 ghost use Prim.Native.Nat.{_≤_};
 ghost use lib.ListN.{length};
 ghost use Rattle.wire.specs.Bytes.{splice};
-ghost use Rattle.dss_salvage.specs.SalvageCall.{Salvages};
-ghost use Rattle.dss_salvage_call.specs.Gathered.{bytesIn, notSalvaged, Gathers, entriesIn};
-use answer::Refusal;
+ghost use Rattle.dss_salvage_call.specs.SalvageCall.{SalvagesRun, GathersEntries, entriesIn};
+ghost use Rattle.dss_salvage_call.specs.inner.SalvageGathered.{bytesIn, notSalvaged};
 use answer::Refused;
 use dss_frame::Rules;
 use dss_measure::Measured;
@@ -48,16 +47,12 @@ pub(crate) fn lay_payloads(run: &[u8], room: &mut [u8])
 pub(crate) fn no_room(bytes: usize, count: usize) -> Salvaged
     ensures { λ r. ⌜ r ≡ notSalvaged bytes count ⌝ }
 {
-    let why = Refusal::NoRoom {
-        bytes,
-        records: count,
-    };
-    Salvaged::Refused(Refused { why, place: 0 })
+    Salvaged::Refused(Refused::no_room(bytes, count, 0))
 }
 
 // What a salvage reading comes to with so many rows, its payloads in the room: measured first, and laid down if all fits.
-pub fn gather(run: &[u8], room: &mut [u8], rows: usize) -> Salvaged
-    ensures { λ r. ⌜ Gathers (now (run .entry)) (now (room .entry)) rows r (now (room .exit)) ⌝ }
+pub fn gather_entries(run: &[u8], room: &mut [u8], rows: usize) -> Salvaged
+    ensures { λ r. ⌜ GathersEntries (now (run .entry)) (now (room .entry)) rows r (now (room .exit)) ⌝ }
 {
     let all = dss_salvage::measure_salvage(run);
     let count = all.count;
@@ -92,9 +87,9 @@ pub fn entries_in(salvaged: Salvaged) -> usize
 
 // All that can be read of a run: the payloads of its frames end to end in the room, one record for each entry in the row.
 pub fn salvage(run: &[u8], room: &mut [u8], row: &mut [SalvageEntry]) -> Salvaged
-    ensures { λ r. ⌜ Salvages (now (run .entry)) (now (room .entry)) (now (row .entry)) r (now (room .exit)) (now (row .exit)) ⌝ }
+    ensures { λ r. ⌜ SalvagesRun (now (run .entry)) (now (room .entry)) (now (row .entry)) r (now (room .exit)) (now (row .exit)) ⌝ }
 {
-    let salvaged = gather(run, room, row.len());
+    let salvaged = gather_entries(run, room, row.len());
     dss_salvage_row::fill_entries(run, 0, entries_in(salvaged), row);
     salvaged
 }

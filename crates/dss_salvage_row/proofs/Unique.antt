@@ -15,16 +15,17 @@ use contract.Monad.{Fun, fact}
 use denote.Ref.{RefT, at-last}
 use Rattle.wire.specs.Bytes.{splice}
 use Rattle.dss_salvage.specs.declared.SalvageEntry.{SalvageEntry}
-use Rattle.dss_salvage_row.specs.Entries.{recordsFrom, startsAt}
+use Rattle.dss_frame.specs.inner.RowStart.{startsAt}
+use Rattle.dss_salvage_row.specs.inner.EntryRows.{entryRecordsFrom}
 use Rattle.dss_salvage_row.proofs.fill_entries as fill
 
-abbrev pub Filled : List ℕ → ℕ → ℕ → List SalvageEntry → List SalvageEntry → Type 0
-Filled s p count row after = after ≡ splice row 0 (recordsFrom (length row) s (startsAt p count))
+abbrev pub EntryRowFilled : List ℕ → ℕ → ℕ → List SalvageEntry → List SalvageEntry → Type 0
+EntryRowFilled s p count row after = after ≡ splice row 0 (entryRecordsFrom (length row) s (startsAt p count))
 
 -- it is the function's own clause, in any model
 pub fill-says : {M : Type 1} (𝓤 : URA M) (H : Heap 𝓤) (A : Atoms 𝓤) (mem : Memory → SProp 𝓤) (run : Routine → Fun 𝓤) (κs : Lfts 2) (s : RefT (List ℕ)) (p count : ℕ) (row : RefT (List SalvageEntry)) (after : List SalvageEntry)
-    → fill.clauses 𝓤 H A mem run κs (s, (p, (count, (row, tt)))) .ensures tt tt (s, (p, (count, (at-last row after, tt)))) ≡ fact 𝓤 (Filled (s .now) p count (row .now) after)
+    → fill.clauses 𝓤 H A mem run κs (s, (p, (count, (row, tt)))) .ensures tt tt (s, (p, (count, (at-last row after, tt)))) ≡ fact 𝓤 (EntryRowFilled (s .now) p count (row .now) after)
 fill-says 𝓤 H A mem run κs s p count row after = refl
 
-pub filled-one : (s : List ℕ) (p count : ℕ) (row after after′ : List SalvageEntry) → Filled s p count row after → Filled s p count row after′ → after ≡ after′
+pub filled-one : (s : List ℕ) (p count : ℕ) (row after after′ : List SalvageEntry) → EntryRowFilled s p count row after → EntryRowFilled s p count row after′ → after ≡ after′
 filled-one s p count row after after′ e k = e ∙ sym k

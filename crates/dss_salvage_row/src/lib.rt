@@ -3,17 +3,12 @@ ghost use mathlib.Core.Path.{_≡_};
 ghost use Prim.Native.Nat.{_≤_};
 ghost use lib.ListN.{length};
 ghost use Rattle.wire.specs.Bytes.{splice};
-ghost use Rattle.dss_salvage_row.specs.Entries.{recordAt, startsAt, recordsFrom};
+ghost use Rattle.dss_frame.specs.inner.RowStart.{startsAt};
+ghost use Rattle.dss_salvage_row.specs.inner.EntryRows.{entryRecordAt, entryRecordsFrom};
+use dss_frame::RowPlace;
 use dss_salvage::Entry;
 use dss_salvage::SalvageEntry;
 use dss_salvage::Step;
-
-// Where an entry starts in the run, where its payload lies in the room, and how many entries are still to come.
-pub struct RowPlace {
-    pub at: usize,
-    pub payload_at: usize,
-    pub left: usize,
-}
 
 // What stands at a place: an entry's record and the place behind it, or none.
 pub enum RecordFound {
@@ -24,7 +19,7 @@ pub enum RecordFound {
 // The record at a place, found by a step of the walk. A payload is no longer than the bytes that its frame takes.
 pub(crate) fn record_at(run: &[u8], place: RowPlace) -> RecordFound
     requires { ⌜ place .«payload_at» ≤ place .at ⌝ }
-    ensures { λ r. ⌜ r ≡ recordAt (now (run .entry)) place ⌝ }
+    ensures { λ r. ⌜ r ≡ entryRecordAt (now (run .entry)) place ⌝ }
 {
     let at = place.at;
     let payload_at = place.payload_at;
@@ -32,7 +27,7 @@ pub(crate) fn record_at(run: &[u8], place: RowPlace) -> RecordFound
     if left == 0 {
         return RecordFound::End;
     }
-    match dss_salvage::entry_at(run, at) {
+    match dss_salvage::step_at(run, at) {
         Step::End => RecordFound::End,
         Step::Last(refused) => {
             let entry = Entry::Refused {
@@ -71,7 +66,7 @@ pub(crate) fn record_at(run: &[u8], place: RowPlace) -> RecordFound
 
 // The records of at most `count` entries from a place on, as many as the row has, with their payloads end to end.
 pub fn fill_entries(run: &[u8], from: usize, count: usize, row: &mut [SalvageEntry])
-    ensures { λ _. ⌜ now (row .exit) ≡ splice (now (row .entry)) 0 (recordsFrom (length (now (row .entry))) (now (run .entry)) (startsAt «from» count)) ⌝ }
+    ensures { λ _. ⌜ now (row .exit) ≡ splice (now (row .entry)) 0 (entryRecordsFrom (length (now (row .entry))) (now (run .entry)) (startsAt «from» count)) ⌝ }
 {
     let mut i: usize = 0;
     let mut place = RowPlace {

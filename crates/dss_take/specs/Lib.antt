@@ -1,6 +1,2 @@
 pub mod Take
-pub mod Payloads
-pub mod Frames
-pub mod Chunks
-pub mod Taking
-pub mod Answers
+pub mod inner

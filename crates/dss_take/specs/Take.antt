@@ -1,7 +1,7 @@
 -- What taking a frame answers, and what the lent room then holds: document 01, "Reading", "Last comes 9, position unmoved".
 use Prim.Native.Nat.{ℕ}
 use mathlib.Core.Path.{_≡_}
-use mathlib.Core.List.{List, []}
+use mathlib.Core.List.{List}
 use lib.Dec.{leb}
 use lib.ListN.{length}
 use Rattle.wire.specs.Bytes.{pick, laid}
@@ -12,6 +12,7 @@ use Rattle.dss_frame.specs.declared.Rules.{Rules}
 use Rattle.dss_measure.specs.Measure.{measureOf}
 use Rattle.dss_measure.specs.declared.Measured.{Measured}
 use Rattle.dss_measure.specs.declared.Measured.the-variants.{Frame as Gives, Refused as NotMeasured}
+use Rattle.dss_frame.specs.FrameRecords.{readBytes}
 
 -- a frame's measure where its payload fits, else 9
 abbrev pub takenOf : List ℕ → ℕ → ℕ → Read → Measured
@@ -23,11 +24,6 @@ takenOf s p size (frame f) =
 abbrev pub roomRead : List ℕ → List ℕ → Read → List ℕ
 roomRead s room (frame f) = laid room 0 (payloadOf s (f .segments))
 roomRead s room (refused r) = room
-
--- the payload of what is read, none of a refusal
-abbrev pub readBytes : List ℕ → Read → List ℕ
-readBytes s (frame f) = payloadOf s (f .segments)
-readBytes s (refused r) = []
 
 -- under whose rules, of what run, from what place on
 unfoldable pub payloadAt : Rules → List ℕ → ℕ → List ℕ

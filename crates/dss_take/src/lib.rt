@@ -7,25 +7,19 @@ ghost use Rattle.wire.specs.Bytes.{be16, part, splice};
 ghost use Rattle.dss_frame.specs.Reading.{startsExtended};
 ghost use Rattle.dss_measure.specs.Measure.{measuredAt};
 ghost use Rattle.dss_take.specs.Take.{payloadAt, Takes};
-ghost use Rattle.dss_take.specs.Payloads.{Fits, Typed};
-use answer::Refusal;
+ghost use Rattle.dss_take.specs.inner.Payloads.{FitsRoom, Typed};
 use answer::Refused;
 use dss_frame::Rules;
 use dss_head::Chunk;
+use dss_head::DSS_CONTINUATION_HEADER_LEN;
+use dss_head::DSS_CONTINUATION_PAYLOAD_LEN;
+use dss_head::DSS_CONTINUED;
+use dss_head::DSS_FIRST_PAYLOAD_LEN;
+use dss_head::DSS_FULL_SEGMENT_LEN;
 use dss_head::DSS_HEADER_LEN;
-use dss_head::DSS_MAX_SEGMENT_LEN;
 use dss_head::DssType;
 use dss_measure::Look;
 use dss_measure::Measured;
-
-// The bytes of a full segment: 32,767.
-const DSS_FULL_SEGMENT_LEN: usize = DSS_MAX_SEGMENT_LEN as usize;
-// The bytes of a continuation's length.
-const DSS_CONTINUATION_HEADER_LEN: usize = 2;
-// The payload bytes of a full first segment: 32,761.
-const DSS_FIRST_PAYLOAD_LEN: usize = DSS_FULL_SEGMENT_LEN - DSS_HEADER_LEN;
-// The payload bytes of a full continuation: 32,765.
-const DSS_CONTINUATION_PAYLOAD_LEN: usize = DSS_FULL_SEGMENT_LEN - DSS_CONTINUATION_HEADER_LEN;
 
 // A part of the run, laid into the room from a place on.
 pub(crate) fn copy_part(run: &[u8], from: usize, end: usize, room: &mut [u8], at: usize)
@@ -37,7 +31,7 @@ pub(crate) fn copy_part(run: &[u8], from: usize, end: usize, room: &mut [u8], at
 
 // The payload of a frame of raw length 0xFFFF: its first segment's, and each continuation's up to the last.
 pub(crate) fn copy_chunks(rules: Rules, run: &[u8], at: usize, room: &mut [u8])
-    requires { ⌜ Fits rules (now run) at (now room) × (be16 (now run) at ≡ 0xFFFF) ⌝ }
+    requires { ⌜ FitsRoom rules (now run) at (now room) × (be16 (now run) at ≡ 0xFFFF) ⌝ }
     ensures { λ _. ⌜ now (room .exit) ≡ splice (now (room .entry)) 0 (payloadAt rules (now (run .entry)) at) ⌝ }
 {
     let mut from = at + DSS_FULL_SEGMENT_LEN;
@@ -85,7 +79,7 @@ pub(crate) fn copy_absorbed(
     need: usize,
     room: &mut [u8],
 )
-    requires { ⌜ Fits rules (now run) at (now room) × Typed rules (now run) at first × (be16 (now run) at ≡ 0xFFFF → ⊥) × (need ≡ length (payloadAt rules (now run) at)) ⌝ }
+    requires { ⌜ FitsRoom rules (now run) at (now room) × Typed rules (now run) at first × (be16 (now run) at ≡ 0xFFFF → ⊥) × (need ≡ length (payloadAt rules (now run) at)) ⌝ }
     ensures { λ _. ⌜ now (room .exit) ≡ splice (now (room .entry)) 0 (payloadAt rules (now (run .entry)) at) ⌝ }
 {
     let seg_len = wire::u16_at(run, at) as usize;
@@ -124,10 +118,10 @@ pub(crate) fn copy_frame(
     need: usize,
     room: &mut [u8],
 )
-    requires { ⌜ Fits rules (now run) at (now room) × Typed rules (now run) at first × (need ≡ length (payloadAt rules (now run) at)) ⌝ }
+    requires { ⌜ FitsRoom rules (now run) at (now room) × Typed rules (now run) at first × (need ≡ length (payloadAt rules (now run) at)) ⌝ }
     ensures { λ _. ⌜ now (room .exit) ≡ splice (now (room .entry)) 0 (payloadAt rules (now (run .entry)) at) ⌝ }
 {
-    if wire::u16_at(run, at) == 0xFFFF {
+    if wire::u16_at(run, at) == DSS_CONTINUED {
         copy_chunks(rules, run, at, room);
         return;
     }
@@ -152,11 +146,7 @@ pub fn take(rules: Rules, run: &[u8], at: usize, room: &mut [u8]) -> Measured
         Measured::Frame(frame) => {
             let need = frame.payload_len;
             if room.len() < need {
-                let why = Refusal::NoRoom {
-                    bytes: need,
-                    records: 0,
-                };
-                return Measured::Refused(Refused { why, place: at });
+                return Measured::Refused(Refused::no_room(need, 0, at));
             }
             let header = frame.header;
             let first = header.dss_type;

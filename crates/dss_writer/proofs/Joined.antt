@@ -10,8 +10,8 @@ use contract.Lifetimes.{Lfts}
 use denote.Ref.{RefT, at-last}
 use borrow.Author.Tests.{le-leb}
 use Rattle.wire.specs.Bytes.{part, splice, laid}
-use Rattle.wire.specs.Laws.{pick-yes}
-use Rattle.wire.specs.Splice.{splice-length, splice-splice, splice-part, laid-fits}
+use Rattle.wire.proofs.WireLaws.{pick-yes}
+use Rattle.wire.proofs.Splicing.{splice-length, splice-splice, splice-part, laid-fits}
 use Rattle.answer.specs.Rooms.{roomFor}
 use Rattle.answer.specs.declared.RoomFor.the-variants.{Enough}
 use Rattle.dss_head.specs.declared.DssType.{DssType}

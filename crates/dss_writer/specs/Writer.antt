@@ -19,12 +19,12 @@ use Rattle.dss_writer.specs.declared.Wrote.the-variants.{Done, Refused a
 
 -- ---- the state
 
-abbrev pub fresh : ℕ → DssWriter
-fresh correlation = record { «correlation_id» = correlation; fill = 0 }
+abbrev pub freshWriter : ℕ → DssWriter
+freshWriter correlation = record { «correlation_id» = correlation; fill = 0 }
 
 -- "`finish` empties the writer and keeps the correlation"
 abbrev pub finished : DssWriter → DssWriter
-finished w = fresh (w .«correlation_id»)
+finished w = freshWriter (w .«correlation_id»)
 
 abbrev pub withCorrelation : DssWriter → ℕ → DssWriter
 withCorrelation w correlation = record { «correlation_id» = correlation; fill = w .fill }

@@ -11,27 +11,20 @@ ghost use Rattle.answer.specs.declared.RoomFor.the-variants.{Enough as enough};
 ghost use Rattle.dss_head.specs.declared.DssType.the-variants.{Request as asRequest, Object as asObject, NoReply as asNoReply};
 ghost use Rattle.dss_head.specs.Heads.{headBytes};
 ghost use Rattle.dss_frame.specs.Written.{headOf, chunks, written, frameSize};
-ghost use Rattle.dss_writer.specs.Writer.{fresh, finished, withCorrelation, nextCorrelation, FilledAt, sent, wroteBy, Writes};
-ghost use Rattle.dss_writer.specs.Laying.{asLaid};
+ghost use Rattle.dss_writer.specs.Writer.{freshWriter, finished, withCorrelation, nextCorrelation, FilledAt, sent, wroteBy, Writes};
+ghost use Rattle.dss_writer.specs.inner.AsLaid.{asLaid};
 use answer::Laid;
 use answer::Refused;
 use answer::RoomFor;
+use dss_head::DSS_CONTINUATION_HEADER_LEN;
+use dss_head::DSS_CONTINUATION_PAYLOAD_LEN;
+use dss_head::DSS_CONTINUED;
+use dss_head::DSS_FIRST_PAYLOAD_LEN;
+use dss_head::DSS_FULL_SEGMENT_LEN;
 use dss_head::DSS_HEADER_LEN;
-use dss_head::DSS_MAX_SEGMENT_LEN;
 use dss_head::DssFlags;
 use dss_head::DssHeader;
 use dss_head::DssType;
-
-// The length that stands in a segment that isn't its frame's last.
-const DSS_CONTINUED: u16 = 0xFFFF;
-// The bytes of such a segment: 32,767.
-const DSS_FULL_SEGMENT_LEN: usize = DSS_MAX_SEGMENT_LEN as usize;
-// The bytes of a continuation's length.
-const DSS_CONTINUATION_HEADER_LEN: usize = 2;
-// The payload bytes of a full first segment: 32,761.
-const DSS_FIRST_PAYLOAD_LEN: usize = DSS_FULL_SEGMENT_LEN - DSS_HEADER_LEN;
-// The payload bytes of a full continuation: 32,765.
-const DSS_CONTINUATION_PAYLOAD_LEN: usize = DSS_FULL_SEGMENT_LEN - DSS_CONTINUATION_HEADER_LEN;
 
 // A writer's state: the correlation of the frames to come, and how much of the lent room is filled.
 pub struct DssWriter {
@@ -151,7 +144,7 @@ impl Wrote {
 
 impl DssWriter {
     pub fn new(initial_correlation_id: u16) -> Self
-        ensures { λ r. ⌜ r ≡ fresh «initial_correlation_id» ⌝ }
+        ensures { λ r. ⌜ r ≡ freshWriter «initial_correlation_id» ⌝ }
     {
         Self {
             correlation_id: initial_correlation_id,

@@ -6,8 +6,8 @@ use lib.ListN.{replicate}
 use Rattle.wire.specs.Bytes.{last, splice, laid}
 use Rattle.ddm_builder.specs.Built.{lengthBytes, built}
 use Rattle.ddm_builder.specs.Builder.{parameter16, parameter32}
-use Rattle.gateway_words.specs.Words.{Answered}
-use Rattle.gateway_builder.specs.BuilderWords.{builderOf, adding, Appends, Makes, Lays}
+use Rattle.gateway_words.specs.AnswerWords.{Answered, LaysInWords}
+use Rattle.gateway_builder.specs.BuilderWords.{builderOf, adding, Appends, Makes}
 
 -- ---- adding
 
@@ -49,7 +49,7 @@ unfolding lengthBytes built splice laid
 makes-none = record { answers = record { number-is = refl; words-are = refl }; room-is = refl }
 
 -- document 01, "Both sides of each edge": "Data 32,764: 80 08, code point, 00 00 7F FC, 32,772 bytes"
-edge : Lays (built 0x2412 (replicate 32764 0xC1)) (replicate 32773 9) (replicate 8 7) 0
+edge : LaysInWords (built 0x2412 (replicate 32764 0xC1)) (replicate 32773 9) (replicate 8 7) 0
     ((0x80 ∷ 0x08 ∷ 0x24 ∷ 0x12 ∷ 0x00 ∷ 0x00 ∷ 0x7F ∷ 0xFC ∷ []) ++ (replicate 32764 0xC1 ++ (9 ∷ []))) (0 ∷ 0 ∷ 32772 ∷ 0 ∷ 0 ∷ 0 ∷ 0 ∷ 0 ∷ [])
 unfolding last lengthBytes built splice laid
 edge = record { answers = record { number-is = refl; words-are = refl }; room-is = refl }

@@ -1,3 +1,3 @@
-pub mod Building
+pub mod BuilderAnswers
 pub mod Cases
 pub mod Unique

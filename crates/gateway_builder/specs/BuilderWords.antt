@@ -1,7 +1,6 @@
 -- Module 4's building for a caller in C or Rust: a builder, of numbers, and what each of its calls answers in words and leaves
 -- in the lent room.
 use Prim.Native.Nat.{ℕ}
-use mathlib.Core.Path.{_≡_}
 use mathlib.Core.List.{List}
 use lib.Dec.{leb}
 use lib.ListN.{length}
@@ -9,11 +8,11 @@ use Rattle.wire.specs.Bytes.{pick, laid}
 use Rattle.answer.specs.Rooms.{outOfBounds, laidAtStart}
 use Rattle.answer.specs.declared.Laid.{Laid}
 use Rattle.answer.specs.declared.Laid.the-variants.{Refused as NotLaid}
-use Rattle.ddm_builder.specs.Builder.{added, objectOf}
+use Rattle.ddm_builder.specs.Builder.{added, builderObject}
 use Rattle.ddm_builder.specs.declared.DdmBuilder.{DdmBuilder}
 use Rattle.ddm_builder.specs.declared.Added.{Added}
 use Rattle.ddm_builder.specs.declared.Added.the-variants.{Done, Refused as NotAdded}
-use Rattle.gateway_words.specs.Words.{refusalWords, doneWords, laidWords, Answered}
+use Rattle.gateway_words.specs.AnswerWords.{refusalWords, doneWords, laidWords, Leaves}
 
 -- ---- what a call is given
 
@@ -33,25 +32,17 @@ addedWords (Done b) = doneWords (b .fill) 0 0 0
 addedWords (NotAdded r) = refusalWords r
 
 -- what a call answers, and what the lent words and the lent room then hold
-pub record Appends (b : DdmBuilder) (bytes room words : List ℕ) (r : ℕ) (room-after words-after : List ℕ) : Type 0 where
-  pub answers : Answered (addedWords (added b (length room) (length bytes))) words r words-after
-  pub room-is : room-after ≡ laid room (b .fill) bytes
+abbrev pub Appends : DdmBuilder → List ℕ → List ℕ → List ℕ → ℕ → List ℕ → List ℕ → Type 0
+Appends b bytes room = Leaves (addedWords (added b (length room) (length bytes))) (laid room (b .fill) bytes)
 
 -- ---- a builder's object: 10 where the fill mark is beyond the data's room, then 9, both at the fill mark
 
 abbrev pub madeLaid : DdmBuilder → List ℕ → ℕ → Laid
 madeLaid b content size =
-    pick (leb (b .fill) (length content)) (laidAtStart (b .fill) size (length (objectOf b content))) (NotLaid (outOfBounds (b .fill) (length content)))
+    pick (leb (b .fill) (length content)) (laidAtStart (b .fill) size (length (builderObject b content))) (NotLaid (outOfBounds (b .fill) (length content)))
 
 abbrev pub madeRoom : DdmBuilder → List ℕ → List ℕ → List ℕ
-madeRoom b content room = pick (leb (b .fill) (length content)) (laid room 0 (objectOf b content)) room
+madeRoom b content room = pick (leb (b .fill) (length content)) (laid room 0 (builderObject b content)) room
 
-pub record Makes (b : DdmBuilder) (content room words : List ℕ) (r : ℕ) (room-after words-after : List ℕ) : Type 0 where
-  pub answers : Answered (laidWords (madeLaid b content (length room))) words r words-after
-  pub room-is : room-after ≡ madeRoom b content room
-
--- ---- a parameter or an object at the room's first byte: 9
-
-pub record Lays (bytes room words : List ℕ) (r : ℕ) (room-after words-after : List ℕ) : Type 0 where
-  pub answers : Answered (laidWords (laidAtStart 0 (length room) (length bytes))) words r words-after
-  pub room-is : room-after ≡ laid room 0 bytes
+abbrev pub Makes : DdmBuilder → List ℕ → List ℕ → List ℕ → ℕ → List ℕ → List ℕ → Type 0
+Makes b content room = Leaves (laidWords (madeLaid b content (length room))) (madeRoom b content room)

@@ -1,10 +1,10 @@
-// Building DDM objects for C and Rust: document 01, module 4. Slices, numbers and words go as in the crate gateway. A builder
+// Building DDM objects for C and Rust: document 01, module 4. Slices, numbers and words go as in the crate gateway_head. A builder
 // goes in as its fill mark, and where its object is built also as the object's code point: adding doesn't look at that one.
 ghost use mathlib.Core.Path.{_≡_};
 ghost use Rattle.ddm_builder.specs.Built.{built};
-ghost use Rattle.ddm_builder.specs.Builder.{parameter16, parameter32, totalLength};
-ghost use Rattle.gateway_words.specs.Words.{Answered};
-ghost use Rattle.gateway_builder.specs.BuilderWords.{builderOf, adding, addedWords, Appends, Makes, Lays};
+ghost use Rattle.ddm_builder.specs.Builder.{parameter16, parameter32, builderTotal};
+ghost use Rattle.gateway_words.specs.AnswerWords.{Answered, LaysInWords};
+ghost use Rattle.gateway_builder.specs.BuilderWords.{builderOf, adding, addedWords, Appends, Makes};
 use ddm_builder::Added;
 use ddm_builder::DdmBuilder;
 use gateway_words::put_done;
@@ -115,7 +115,7 @@ pub extern "C" fn lattrugone_builder_build(
 // How many bytes the object is, of its data's length; 2^64 - 1 where they are more.
 #[no_mangle]
 pub extern "C" fn lattrugone_builder_total_length(fill: usize) -> usize
-    ensures { λ r. ⌜ r ≡ totalLength (adding fill) ⌝ }
+    ensures { λ r. ⌜ r ≡ builderTotal (adding fill) ⌝ }
 {
     let builder = DdmBuilder {
         code_point: 0,
@@ -133,7 +133,7 @@ pub extern "C" fn lattrugone_build_param(
     room: &mut [u8],
     words: &mut [u64],
 ) -> u8
-    ensures { λ r. ⌜ Lays (built «code_point» (now («data» .entry))) (now (room .entry)) (now (words .entry)) r (now (room .exit)) (now (words .exit)) ⌝ }
+    ensures { λ r. ⌜ LaysInWords (built «code_point» (now («data» .entry))) (now (room .entry)) (now (words .entry)) r (now (room .exit)) (now (words .exit)) ⌝ }
 {
     let laid = ddm_builder::build_param(code_point, data, room);
     put_laid(words, laid)
@@ -146,7 +146,7 @@ pub extern "C" fn lattrugone_build_param_u16(
     room: &mut [u8],
     words: &mut [u64],
 ) -> u8
-    ensures { λ r. ⌜ Lays (parameter16 «code_point» value) (now (room .entry)) (now (words .entry)) r (now (room .exit)) (now (words .exit)) ⌝ }
+    ensures { λ r. ⌜ LaysInWords (parameter16 «code_point» value) (now (room .entry)) (now (words .entry)) r (now (room .exit)) (now (words .exit)) ⌝ }
 {
     let laid = ddm_builder::build_param_u16(code_point, value, room);
     put_laid(words, laid)
@@ -159,7 +159,7 @@ pub extern "C" fn lattrugone_build_ddm_object(
     room: &mut [u8],
     words: &mut [u64],
 ) -> u8
-    ensures { λ r. ⌜ Lays (built «code_point» (now (payload .entry))) (now (room .entry)) (now (words .entry)) r (now (room .exit)) (now (words .exit)) ⌝ }
+    ensures { λ r. ⌜ LaysInWords (built «code_point» (now (payload .entry))) (now (room .entry)) (now (words .entry)) r (now (room .exit)) (now (words .exit)) ⌝ }
 {
     let laid = ddm_builder::build_ddm_object(code_point, payload, room);
     put_laid(words, laid)

@@ -12,7 +12,7 @@ use Rattle.ddm_object.specs.Objects.{parsed, parametersFuel, parameters}
 use Rattle.ddm_change.specs.Change.{faultFrom, firstFrom, changeOf, neededOf}
 use Rattle.ddm_change.specs.Alone.{aloneAt}
 use Rattle.ddm_change.specs.Request.{placeIn, reframed, requestOf}
-use Rattle.gateway_words.specs.Words.{laidWords, Answered}
+use Rattle.gateway_words.specs.AnswerWords.{laidWords, Answered}
 use Rattle.gateway_change.specs.ChangeWords.{ChangesParam, ChangesFrame}
 
 -- a parameter grows, in a room with a byte more

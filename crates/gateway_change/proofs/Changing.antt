@@ -4,7 +4,7 @@ use mathlib.Core.List.{List}
 use Rattle.answer.specs.declared.Laid.{Laid}
 use Rattle.ddm_change.specs.Change.{Changes}
 use Rattle.ddm_change.specs.Request.{ChangesRequest}
-use Rattle.gateway_words.specs.Words.{laidWords, Answered}
+use Rattle.gateway_words.specs.AnswerWords.{laidWords, Answered}
 use Rattle.gateway_change.specs.ChangeWords.{ChangesParam, ChangesFrame}
 
 module _ {cp : ℕ} {new room words : List ℕ} {r : ℕ} {room′ words′ : List ℕ} {a : Laid} where

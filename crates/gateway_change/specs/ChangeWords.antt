@@ -1,17 +1,13 @@
 -- What the calls that change one parameter answer in words, and leave in the lent room.
 use Prim.Native.Nat.{ℕ}
-use mathlib.Core.Path.{_≡_}
 use mathlib.Core.List.{List}
 use lib.ListN.{length}
-use Rattle.ddm_change.specs.Change.{changeOf, answerOf, roomOf}
-use Rattle.ddm_change.specs.Request as request
-use Rattle.ddm_change.specs.Request.{requestOf}
-use Rattle.gateway_words.specs.Words.{laidWords, Answered}
+use Rattle.ddm_change.specs.Change.{changeOf, changeAnswer, changeRoom}
+use Rattle.ddm_change.specs.Request.{requestOf, requestAnswer, requestRoom}
+use Rattle.gateway_words.specs.AnswerWords.{laidWords, Leaves}
 
-pub record ChangesParam (d : List ℕ) (cp : ℕ) (new room words : List ℕ) (r : ℕ) (room-after words-after : List ℕ) : Type 0 where
-  pub answers : Answered (laidWords (answerOf (changeOf d cp new) (length room))) words r words-after
-  pub room-is : room-after ≡ roomOf (changeOf d cp new) room
+abbrev pub ChangesParam : List ℕ → ℕ → List ℕ → List ℕ → List ℕ → ℕ → List ℕ → List ℕ → Type 0
+ChangesParam d cp new room = Leaves (laidWords (changeAnswer (changeOf d cp new) (length room))) (changeRoom (changeOf d cp new) room)
 
-pub record ChangesFrame (s : List ℕ) (cp : ℕ) (new room words : List ℕ) (r : ℕ) (room-after words-after : List ℕ) : Type 0 where
-  pub answers : Answered (laidWords (request.answerOf (requestOf s cp new) (length room))) words r words-after
-  pub room-is : room-after ≡ request.roomOf (requestOf s cp new) room
+abbrev pub ChangesFrame : List ℕ → ℕ → List ℕ → List ℕ → List ℕ → ℕ → List ℕ → List ℕ → Type 0
+ChangesFrame s cp new room = Leaves (laidWords (requestAnswer (requestOf s cp new) (length room))) (requestRoom (requestOf s cp new) room)

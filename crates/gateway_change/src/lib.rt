@@ -1,7 +1,7 @@
-// Changing one parameter for C and Rust: document 02, W-204. Slices, numbers and words go as in the crate gateway. The result of each:
+// Changing one parameter for C and Rust: document 02, W-204. Slices, numbers and words go as in the crate gateway_head. The result of each:
 // how many bytes.
 ghost use mathlib.Core.Path.{_≡_};
-ghost use Rattle.gateway_words.specs.Words.{laidWords, Answered};
+ghost use Rattle.gateway_words.specs.AnswerWords.{laidWords, Answered};
 ghost use Rattle.ddm_change.specs.Change.{neededOf};
 ghost use Rattle.gateway_change.specs.ChangeWords.{ChangesParam, ChangesFrame};
 use gateway_words::put_laid;

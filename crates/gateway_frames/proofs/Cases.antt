@@ -4,13 +4,12 @@ use Prim.Native.Nat.{ℕ}
 use mathlib.Core.Path.{_≡_, refl}
 use mathlib.Core.List.{List, [], _∷_, _++_}
 use lib.ListN.{replicate}
-use Rattle.wire.specs.Bytes.{splice}
+use Rattle.wire.specs.Bytes.{splice, joined}
 use Rattle.dss_frame.specs.Segments.{payloadOf, endOf}
 use Rattle.dss_frame.specs.Frames.{allFrames}
-use Rattle.dss_frame.specs.Records.{payloadsOf, recordsOf}
-use Rattle.dss_reader.specs.Reader.{givenAll}
-use Rattle.gateway_row.specs.RowWords.{joined}
-use Rattle.gateway_frames.specs.FramesWords.{framesWords, rowWords}
+use Rattle.dss_frame.specs.FrameRecords.{payloadsOf, frameRecords}
+use Rattle.dss_reader.specs.Reader.{givenFrames}
+use Rattle.gateway_frames.specs.FramesWords.{framesWords, framesRow}
 
 -- ---- the runs
 
@@ -32,10 +31,10 @@ p8 = p2 ++ replicate 6 0
 -- ---- what is answered, and what the row then holds
 
 answer : List ℕ → ℕ → ℕ → ℕ → List ℕ
-answer s p size rows = framesWords (givenAll s p size rows (allFrames s p))
+answer s p size rows = framesWords (givenFrames s p size rows (allFrames s p))
 
 row-of : List ℕ → ℕ → List ℕ → List ℕ
-row-of s size row = rowWords s 0 size row (allFrames s 0)
+row-of s size row = framesRow s 0 size row (allFrames s 0)
 
 -- two frames, the position behind them; the second one alone; a room and a row too short; a refused head; beyond the run
 cases : (answer run 0 2 2 ≡ 0 ∷ 20 ∷ 2 ∷ 2 ∷ replicate 4 0)
@@ -48,5 +47,5 @@ cases : (answer run 0 2 2 ≡ 0 ∷ 20 ∷ 2 ∷ 2 ∷ replicate 4 0)
     × (answer p8 0 9 9 ≡ 2 ∷ 6 ∷ replicate 6 0)
     × (row-of p8 9 (replicate 20 9) ≡ replicate 20 9)
     × (answer run 24 9 9 ≡ 10 ∷ 24 ∷ 24 ∷ 23 ∷ replicate 4 0)
-unfolding p2 p9 run p8 answer row-of allFrames payloadOf endOf payloadsOf recordsOf joined splice
+unfolding p2 p9 run p8 answer row-of allFrames payloadOf endOf payloadsOf frameRecords joined splice
 cases = (refl, refl, refl, refl, refl, refl, refl, refl, refl, refl)

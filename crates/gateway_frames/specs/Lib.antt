@@ -1,2 +1,2 @@
 pub mod FramesWords
-pub mod LaidRecords
+pub mod inner

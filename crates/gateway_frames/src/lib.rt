@@ -1,8 +1,8 @@
 // All frames at once for C and Rust: document 01, "Reading", `read_all_frames`. Slices, numbers and words go as in the crate
 // gateway, a reader as its position. The row of records is lent as words, ten a record.
-ghost use Rattle.gateway_words.specs.Words.{Answered};
+ghost use Rattle.gateway_words.specs.AnswerWords.{Answered};
 ghost use Rattle.gateway_frames.specs.FramesWords.{framesWords, ReadsAllFrames};
-ghost use Rattle.gateway_frames.specs.LaidRecords.{Asks, Taken};
+ghost use Rattle.gateway_frames.specs.inner.LaidRecords.{Asks, TakenRecord};
 use dss_frame::Rules;
 use dss_measure::Measured;
 use dss_reader::FramesRead;
@@ -15,7 +15,7 @@ use gateway_words::put_words;
 // row, ten words each. Each frame is looked at once for both.
 pub(crate) fn take_frames(run: &[u8], from: usize, count: usize, room: &mut [u8], row: &mut [u64])
     requires { ⌜ Asks (now run) «from» count (now room) (now row) ⌝ }
-    ensures { λ _. ⌜ Taken (now (run .entry)) «from» count (now (room .entry)) (now (row .entry)) (now (room .exit)) (now (row .exit)) ⌝ }
+    ensures { λ _. ⌜ TakenRecord (now (run .entry)) «from» count (now (room .entry)) (now (row .entry)) (now (room .exit)) (now (row .exit)) ⌝ }
 {
     let mut at = from;
     let mut payload_at = 0;

@@ -8,7 +8,7 @@ use Rattle.dss_frame.specs.declared.Rules.the-variants.{Reader, Salvage}
 use Rattle.dss_measure.specs.Measure.{measuredRecord}
 use Rattle.dss_measure.specs.declared.Measured.{Measured}
 use Rattle.dss_measure.specs.declared.Measured.the-variants.{Frame as Gives, Refused as NotMeasured}
-use Rattle.gateway_words.specs.Words.{refusalWords}
+use Rattle.gateway_words.specs.AnswerWords.{refusalWords}
 use Rattle.gateway_row.specs.RowWords.{frameAt}
 
 -- "Both are told which rules hold, the reader's or salvage's": by a number, 0 the reader's, any other salvage's

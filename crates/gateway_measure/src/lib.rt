@@ -1,10 +1,10 @@
 // Measuring one frame for C and Rust: document 02, W-208, "Measure, then take"; taking it is the crate gateway_take's. Slices, numbers
-// and words go as in the crate gateway, a frame as in gateway_reader. Either call has an archive of its own, in which nothing but it
+// and words go as in the crate gateway_head, a frame as in gateway_reader. Either call has an archive of its own, in which nothing but it
 // measures: two callers of one long function would keep the compiler from joining it to either, and each frame would cost twice
 // as much.
 ghost use mathlib.Core.Path.{_≡_};
 ghost use Rattle.dss_measure.specs.Measure.{measuredAt};
-ghost use Rattle.gateway_words.specs.Words.{Answered};
+ghost use Rattle.gateway_words.specs.AnswerWords.{Answered};
 ghost use Rattle.gateway_measure.specs.MeasureWords.{rulesOf, measuredWords};
 use dss_frame::Rules;
 use dss_measure::Measured;

@@ -8,9 +8,8 @@ use Rattle.answer.specs.Rooms.{laidAtStart}
 use Rattle.ddm_length.specs.Lengths.{marshaled, measured}
 use Rattle.ddm_length.specs.Markers.{unmarked}
 use Rattle.ddm_object.specs.Objects.{parsed, parametersFuel, parameters}
-use Rattle.ddm_object.specs.ObjectCalls.{objectAt, findFrom, u16Of, u32Of, i32Of}
-use Rattle.ddm_object.specs.Finding.{stepAt}
-use Rattle.gateway_words.specs.Words.{laidWords}
+use Rattle.ddm_object.specs.ObjectCalls.{objectAt, findFrom, u16Of, u32Of, i32Of, paramStepAt}
+use Rattle.gateway_words.specs.AnswerWords.{laidWords}
 use Rattle.gateway_object.specs.ObjectWords.{lengthWords, foundWords, stepWords, u16Words, u32Words, i32Words}
 
 abbrev p13 : List ℕ
@@ -54,13 +53,13 @@ finding = (refl, refl)
 
 -- a step gives the next place; at the end, and at what is unfit, 11 with the place; beyond the data 10 with the place, and with
 -- it and the data's length
-steps : (stepWords (stepAt (p13 ++ p14) 4) ≡ 0 ∷ 10 ∷ 0x2412 ∷ 0 ∷ 9 ∷ 1 ∷ 6 ∷ 0 ∷ [])
-    × (stepWords (stepAt (p13 ++ p14) 10) ≡ 11 ∷ 10 ∷ 0 ∷ 0 ∷ 0 ∷ 0 ∷ 0 ∷ 0 ∷ [])
-    × (stepWords (stepAt (p13 ++ p16) 4) ≡ 11 ∷ 4 ∷ 0 ∷ 0 ∷ 0 ∷ 0 ∷ 0 ∷ 0 ∷ [])
-    × (stepWords (stepAt (p13 ++ p14) 11) ≡ 10 ∷ 11 ∷ 11 ∷ 10 ∷ 0 ∷ 0 ∷ 0 ∷ 0 ∷ [])
-    × (stepWords (stepAt [] 1) ≡ 10 ∷ 1 ∷ 1 ∷ 0 ∷ 0 ∷ 0 ∷ 0 ∷ 0 ∷ [])
-    × (stepWords (stepAt [] 0) ≡ 11 ∷ 0 ∷ 0 ∷ 0 ∷ 0 ∷ 0 ∷ 0 ∷ 0 ∷ [])
-unfolding stepAt parsed measured marshaled unmarked
+steps : (stepWords (paramStepAt (p13 ++ p14) 4) ≡ 0 ∷ 10 ∷ 0x2412 ∷ 0 ∷ 9 ∷ 1 ∷ 6 ∷ 0 ∷ [])
+    × (stepWords (paramStepAt (p13 ++ p14) 10) ≡ 11 ∷ 10 ∷ 0 ∷ 0 ∷ 0 ∷ 0 ∷ 0 ∷ 0 ∷ [])
+    × (stepWords (paramStepAt (p13 ++ p16) 4) ≡ 11 ∷ 4 ∷ 0 ∷ 0 ∷ 0 ∷ 0 ∷ 0 ∷ 0 ∷ [])
+    × (stepWords (paramStepAt (p13 ++ p14) 11) ≡ 10 ∷ 11 ∷ 11 ∷ 10 ∷ 0 ∷ 0 ∷ 0 ∷ 0 ∷ [])
+    × (stepWords (paramStepAt [] 1) ≡ 10 ∷ 1 ∷ 1 ∷ 0 ∷ 0 ∷ 0 ∷ 0 ∷ 0 ∷ [])
+    × (stepWords (paramStepAt [] 0) ≡ 11 ∷ 0 ∷ 0 ∷ 0 ∷ 0 ∷ 0 ∷ 0 ∷ 0 ∷ [])
+unfolding paramStepAt parsed measured marshaled unmarked
 steps = (refl, refl, refl, refl, refl, refl)
 
 -- numbers read from data: -2 as two's complement of 64 bits; 11 where there are too few bytes

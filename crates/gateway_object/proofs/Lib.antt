@@ -1,2 +1,3 @@
+pub mod SignedLaws
 pub mod Unique
 pub mod Cases

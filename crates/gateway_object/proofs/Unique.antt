@@ -6,7 +6,7 @@ use mathlib.Core.List.{List}
 use contract.Lifetimes.{Lfts}
 use denote.Ref.{RefT, at-last}
 use Rattle.ddm_object.specs.declared.DdmObject.{DdmObject}
-use Rattle.gateway_words.proofs.Unique.{answered-one}
+use Rattle.gateway_words.proofs.Unique.{answered-one, leaves-one}
 use Rattle.gateway_object.proofs.lattrugone_parse_marshaled_length.Reads as parse-marshaled-length
 use Rattle.gateway_object.proofs.lattrugone_strip_markers.Reads as strip-markers
 use Rattle.gateway_object.proofs.put_object.Reads as put-object
@@ -59,21 +59,15 @@ module _ (κs : Lfts 3) (run room words : RefT (List ℕ)) (r r′ : ℕ) (k k�
   pub strip-markers-one : strip-markers.Post κs (run, (room, (words, tt))) r (run, (at-last room k, (at-last words l, tt)))
       → strip-markers.Post κs (run, (room, (words, tt))) r′ (run, (at-last room k′, (at-last words l′, tt)))
       → (r ≡ r′) × (l ≡ l′) × (k ≡ k′)
-  strip-markers-one p q =
-      let w : (r ≡ r′) × (l ≡ l′) = answered-one (p .answers) (q .answers) in
-      (w .0, w .1, p .room-is ∙ sym (q .room-is))
+  strip-markers-one p q = leaves-one p q
 
   module _ (at : ℕ) where
     pub object-one : object.Post κs (run, (at, (room, (words, tt)))) r (run, (at, (at-last room k, (at-last words l, tt))))
         → object.Post κs (run, (at, (room, (words, tt)))) r′ (run, (at, (at-last room k′, (at-last words l′, tt))))
         → (r ≡ r′) × (l ≡ l′) × (k ≡ k′)
-    object-one p q =
-        let w : (r ≡ r′) × (l ≡ l′) = answered-one (p .answers) (q .answers) in
-        (w .0, w .1, p .work-is ∙ sym (q .work-is))
+    object-one p q = leaves-one p q
 
     pub find-param-one : find-param.Post κs (run, (at, (room, (words, tt)))) r (run, (at, (at-last room k, (at-last words l, tt))))
         → find-param.Post κs (run, (at, (room, (words, tt)))) r′ (run, (at, (at-last room k′, (at-last words l′, tt))))
         → (r ≡ r′) × (l ≡ l′) × (k ≡ k′)
-    find-param-one p q =
-        let w : (r ≡ r′) × (l ≡ l′) = answered-one (p .answers) (q .answers) in
-        (w .0, w .1, p .work-is ∙ sym (q .work-is))
+    find-param-one p q = leaves-one p q

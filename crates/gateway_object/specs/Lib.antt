@@ -1,2 +1,1 @@
 pub mod ObjectWords
-pub mod SignedLaws

@@ -1,14 +1,11 @@
 -- Module 4, reading, for a caller in C or Rust: what the functions on lengths, objects and parameters answer in words, and what
 -- lent rooms and work areas then hold.
 use Prim.Native.Nat.{ℕ, suc, _-_, _^_}
-use mathlib.Core.Path.{_≡_}
 use mathlib.Core.Bool.{Bool}
 use mathlib.Core.List.{List, [], _∷_}
 use lib.IntN.{ℤ, pos, negsuc}
 use lib.ListN.{length, drop}
-use Rattle.wire.specs.Bytes.{pick, laid}
-use Rattle.answer.specs.Rooms.{laidAtStart}
-use Rattle.ddm_length.specs.Markers.{unmarked}
+use Rattle.wire.specs.Bytes.{pick}
 use Rattle.ddm_length.specs.declared.Marshaled.{Marshaled}
 use Rattle.ddm_length.specs.declared.Marshaled.the-variants.{Takes, Refused as Refuses}
 use Rattle.ddm_object.specs.Objects.{parsed, parameters}
@@ -24,7 +21,7 @@ use Rattle.ddm_object.specs.declared.U32Found.{U32Found}
 use Rattle.ddm_object.specs.declared.U32Found.the-variants.{Number as U32, Refused as NoU32}
 use Rattle.ddm_object.specs.declared.I32Found.{I32Found}
 use Rattle.ddm_object.specs.declared.I32Found.the-variants.{Number as I32, Refused as NoI32}
-use Rattle.gateway_words.specs.Words.{refusalWords, doneWords, laidWords, Answered}
+use Rattle.gateway_words.specs.AnswerWords.{refusalWords, doneWords, Leaves}
 
 -- ---- lengths and markers
 
@@ -32,11 +29,6 @@ use Rattle.gateway_words.specs.Words.{refusalWords, doneWords, laidWords, Answe
 abbrev pub lengthWords : Marshaled → List ℕ
 lengthWords (Takes total header) = doneWords total header 0 0
 lengthWords (Refuses r) = refusalWords r
-
--- data without its markers, laid down at the room's first byte
-pub record Strips (s room words : List ℕ) (r : ℕ) (room-after words-after : List ℕ) : Type 0 where
-  pub answers : Answered (laidWords (laidAtStart 0 (length room) (length (unmarked s)))) words r words-after
-  pub room-is : room-after ≡ laid room 0 (unmarked s)
 
 -- ---- objects and parameters
 
@@ -62,14 +54,12 @@ stepWords (Param o next) = placedWords next o
 stepWords (NoStep r) = refusalWords r
 
 -- what the object at a place answers, and what the lent words and the lent work area then hold
-pub record ReadsObject (s : List ℕ) (place : ℕ) (work words : List ℕ) (r : ℕ) (work-after words-after : List ℕ) : Type 0 where
-  pub answers : Answered (foundWords (objectAt s place (length work))) words r words-after
-  pub work-is : work-after ≡ workParsed s place work (parsed (drop place s) place)
+abbrev pub ReadsObject : List ℕ → ℕ → List ℕ → List ℕ → ℕ → List ℕ → List ℕ → Type 0
+ReadsObject s place work = Leaves (foundWords (objectAt s place (length work))) (workParsed s place work (parsed (drop place s) place))
 
 -- the same of the first parameter with a code point
-pub record ReadsParam (s : List ℕ) (cp : ℕ) (work words : List ℕ) (r : ℕ) (work-after words-after : List ℕ) : Type 0 where
-  pub answers : Answered (foundWords (findFrom s 0 cp (length work) (parameters s))) words r words-after
-  pub work-is : work-after ≡ workFound s 0 cp work (parameters s)
+abbrev pub ReadsParam : List ℕ → ℕ → List ℕ → List ℕ → ℕ → List ℕ → List ℕ → Type 0
+ReadsParam s cp work = Leaves (foundWords (findFrom s 0 cp (length work) (parameters s))) (workFound s 0 cp work (parameters s))
 
 -- ---- numbers read from data
 

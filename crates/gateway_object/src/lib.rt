@@ -1,13 +1,13 @@
 // Lengths, objects and parameters for C and Rust: document 01, module 4, what reads. Slices, numbers and words go as in the
-// crate gateway; `words` gets eight words or nothing. Lists of objects and parameters stand in gateway_object_rows.
+// crate gateway_head; `words` gets eight words or nothing. Lists of objects and parameters stand in gateway_object_rows.
 ghost use mathlib.Core.Path.{_≡_};
 ghost use Rattle.answer.specs.Rooms.{capped};
 ghost use Rattle.ddm_length.specs.Lengths.{marshaled};
 ghost use Rattle.ddm_builder.specs.Built.{builtSize};
-ghost use Rattle.ddm_object.specs.Finding.{stepAt};
-ghost use Rattle.ddm_object.specs.ObjectCalls.{u16Of, u32Of, i32Of};
-ghost use Rattle.gateway_words.specs.Words.{Answered};
-ghost use Rattle.gateway_object.specs.ObjectWords.{lengthWords, Strips, flagWord, placedWords, foundWords, stepWords, ReadsObject, ReadsParam, wordOf, u16Words, u32Words, i32Words};
+ghost use Rattle.ddm_object.specs.ObjectCalls.{paramStepAt, u16Of, u32Of, i32Of};
+ghost use Rattle.ddm_length.specs.Markers.{unmarked};
+ghost use Rattle.gateway_words.specs.AnswerWords.{Answered, LaysInWords};
+ghost use Rattle.gateway_object.specs.ObjectWords.{lengthWords, flagWord, placedWords, foundWords, stepWords, ReadsObject, ReadsParam, wordOf, u16Words, u32Words, i32Words};
 use ddm_length::Marshaled;
 use ddm_object::DdmObject;
 use ddm_object::I32Found;
@@ -44,7 +44,7 @@ pub extern "C" fn lattrugone_parse_marshaled_length(data: &[u8], words: &mut [u6
 // Data without its markers, at the room's first byte. The result: how many bytes that are.
 #[no_mangle]
 pub extern "C" fn lattrugone_strip_markers(data: &[u8], room: &mut [u8], words: &mut [u64]) -> u8
-    ensures { λ r. ⌜ Strips (now («data» .entry)) (now (room .entry)) (now (words .entry)) r (now (room .exit)) (now (words .exit)) ⌝ }
+    ensures { λ r. ⌜ LaysInWords (unmarked (now («data» .entry))) (now (room .entry)) (now (words .entry)) r (now (room .exit)) (now (words .exit)) ⌝ }
 {
     let laid = ddm_length::strip_extended_ddm_continuation_markers(data, room);
     put_laid(words, laid)
@@ -125,7 +125,7 @@ pub extern "C" fn lattrugone_find_param(
 // The parameter at a place, by measuring alone; in the place's word the next place. 10, then 11 where the list ends.
 #[no_mangle]
 pub extern "C" fn lattrugone_param_step(data: &[u8], at: usize, words: &mut [u64]) -> u8
-    ensures { λ r. ⌜ Answered (stepWords (stepAt (now («data» .entry)) at)) (now (words .entry)) r (now (words .exit)) ⌝ }
+    ensures { λ r. ⌜ Answered (stepWords (paramStepAt (now («data» .entry)) at)) (now (words .entry)) r (now (words .exit)) ⌝ }
 {
     let step = ddm_object::step_at(data, at);
     put_step(words, step)

@@ -1,2 +1,2 @@
-pub mod RowWords
-pub mod Filling
+pub mod ListWords
+pub mod inner

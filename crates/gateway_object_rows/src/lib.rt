@@ -4,15 +4,19 @@ ghost use mathlib.Core.Path.{_≡_};
 ghost use Prim.Native.Nat.{_*_, _≤_};
 ghost use lib.ListN.{length};
 ghost use Rattle.wire.specs.Bytes.{splice};
-ghost use Rattle.ddm_object.specs.Rows.{recsFrom};
-ghost use Rattle.gateway_words.specs.Words.{Answered};
-ghost use Rattle.gateway_object_rows.specs.RowWords.{listWords, rowWords, ObjectsWords, ParametersWords};
-ghost use Rattle.gateway_object_rows.specs.Filling.{ListsAs};
-use ddm_object::ObjectsFound;
+ghost use Rattle.ddm_rows.specs.inner.RowsFilled.{recsFrom};
+ghost use Rattle.gateway_words.specs.AnswerWords.{Answered};
+ghost use Rattle.gateway_object_rows.specs.ListWords.{objectLen, listWords, listRow, ObjectsWords, ParametersWords};
+ghost use Rattle.gateway_object_rows.specs.inner.Listed.{ListsWordsAs};
 use ddm_object::Stepped;
+use ddm_rows::ObjectsFound;
 use gateway_object::put_object;
+use gateway_words::ANSWER_WORDS;
 use gateway_words::put_done;
 use gateway_words::put_refusal;
+
+// How many words a row's record has: as many as an answer.
+const OBJECT_WORDS: usize = ANSWER_WORDS;
 
 // How many records there are, and how many bytes of the work area are filled, or why none.
 pub(crate) fn put_list(words: &mut [u64], found: ObjectsFound) -> u8
@@ -26,15 +30,15 @@ pub(crate) fn put_list(words: &mut [u64], found: ObjectsFound) -> u8
 
 // The first n records of data into a row that has room for them.
 pub(crate) fn fill(data: &[u8], n: usize, row: &mut [u64])
-    requires { ⌜ n * 8 ≤ length (now row) ⌝ }
-    ensures { λ _. ⌜ now (row .exit) ≡ splice (now (row .entry)) 0 (rowWords (recsFrom n (now («data» .entry)) 0)) ⌝ }
+    requires { ⌜ n * objectLen ≤ length (now row) ⌝ }
+    ensures { λ _. ⌜ now (row .exit) ≡ splice (now (row .entry)) 0 (listRow (recsFrom n (now («data» .entry)) 0)) ⌝ }
 {
     let mut i: usize = 0;
     let mut at: usize = 0;
     while i < n {
         match ddm_object::step_at(data, at) {
             Stepped::Param(o, next) => {
-                let from = i * 8;
+                let from = i * OBJECT_WORDS;
                 put_object(&mut row[from..], 0, o);
                 at = next;
                 i += 1;
@@ -54,11 +58,11 @@ pub(crate) fn list(
     row: &mut [u64],
     words: &mut [u64],
 ) -> u8
-    ensures { λ r. ⌜ ListsAs whole (now («data» .entry)) (now (work .entry)) (now (row .entry)) (now (words .entry)) r (now (work .exit)) (now (row .exit)) (now (words .exit)) ⌝ }
+    ensures { λ r. ⌜ ListsWordsAs whole (now («data» .entry)) (now (work .entry)) (now (row .entry)) (now (words .entry)) r (now (work .exit)) (now (row .exit)) (now (words .exit)) ⌝ }
 {
-    let rows = row.len() / 8;
-    let found = ddm_object::take_as(data, whole, work, rows);
-    let n = ddm_object::count_of(found);
+    let rows = row.len() / OBJECT_WORDS;
+    let found = ddm_rows::take_as(data, whole, work, rows);
+    let n = ddm_rows::count_of(found);
     fill(data, n, row);
     put_list(words, found)
 }

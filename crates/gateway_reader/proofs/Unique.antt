@@ -5,7 +5,7 @@ use mathlib.Core.Path.{_≡_, sym, _∙_}
 use mathlib.Core.List.{List}
 use contract.Lifetimes.{Lfts}
 use denote.Ref.{RefT, at-last}
-use Rattle.gateway_words.proofs.Unique.{answered-one}
+use Rattle.gateway_words.proofs.Unique.{answered-one, leaves-one}
 use Rattle.gateway_reader.proofs.lattrugone_remaining.Reads as remaining
 use Rattle.gateway_reader.proofs.lattrugone_has_frame.Reads as has-frame
 use Rattle.gateway_reader.proofs.lattrugone_frame_end.Reads as frame-end
@@ -35,6 +35,4 @@ module _ (κs : Lfts 3) (run room words : RefT (List ℕ)) (at r r′ : ℕ) (k 
   pub next-frame-one : next-frame.Post κs (run, (at, (room, (words, tt)))) r (run, (at, (at-last room k, (at-last words l, tt))))
       → next-frame.Post κs (run, (at, (room, (words, tt)))) r′ (run, (at, (at-last room k′, (at-last words l′, tt))))
       → (r ≡ r′) × (l ≡ l′) × (k ≡ k′)
-  next-frame-one p q =
-      let w : (r ≡ r′) × (l ≡ l′) = answered-one (p .answers) (q .answers) in
-      (w .0, w .1, p .room-is ∙ sym (q .room-is))
+  next-frame-one p q = leaves-one p q

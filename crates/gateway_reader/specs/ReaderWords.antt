@@ -1,17 +1,16 @@
 -- Module 3 for a caller in C or Rust: what the reader's functions answer in words, and what the lent room then holds.
 use Prim.Native.Nat.{ℕ}
-use mathlib.Core.Path.{_≡_}
 use mathlib.Core.List.{List}
 use lib.ListN.{length}
 use Rattle.dss_frame.specs.Reading.{readAt}
 use Rattle.dss_frame.specs.declared.Rules.the-variants.{Reader}
 use Rattle.dss_take.specs.Take.{roomRead}
-use Rattle.dss_reader.specs.Reader.{given}
+use Rattle.dss_reader.specs.Reader.{givenFrame}
 use Rattle.dss_reader.specs.declared.FrameEnd.{FrameEnd}
 use Rattle.dss_reader.specs.declared.FrameEnd.the-variants.{End, Refused as NoEnd}
 use Rattle.dss_reader.specs.declared.FrameRead.{FrameRead}
 use Rattle.dss_reader.specs.declared.FrameRead.the-variants.{Frame as Gives, Refused as NotRead}
-use Rattle.gateway_words.specs.Words.{refusalWords, doneWords, Answered}
+use Rattle.gateway_words.specs.AnswerWords.{refusalWords, doneWords, Leaves}
 use Rattle.gateway_row.specs.RowWords.{frameAt}
 
 -- a frame's end: the byte after its last
@@ -26,6 +25,5 @@ frameWords (Gives f reader) = frameAt (reader .position) (f .at) f
 frameWords (NotRead r reader) = refusalWords r
 
 -- what reading the frame at p answers, and what the lent words and the lent room then hold
-pub record ReadsFrame (s : List ℕ) (p : ℕ) (room words : List ℕ) (r : ℕ) (room-after words-after : List ℕ) : Type 0 where
-  pub answers : Answered (frameWords (given s p (length room) (readAt Reader s p))) words r words-after
-  pub room-is : room-after ≡ roomRead s room (readAt Reader s p)
+abbrev pub ReadsFrame : List ℕ → ℕ → List ℕ → List ℕ → ℕ → List ℕ → List ℕ → Type 0
+ReadsFrame s p room = Leaves (frameWords (givenFrame s p (length room) (readAt Reader s p))) (roomRead s room (readAt Reader s p))

@@ -1,11 +1,11 @@
-// The reader for C and Rust: document 01, module 3. Slices, numbers and words go as in the crate gateway. A reader goes in as
+// The reader for C and Rust: document 01, module 3. Slices, numbers and words go as in the crate gateway_head. A reader goes in as
 // its position. All frames at once are the crate gateway_frames'.
 ghost use mathlib.Core.Path.{_≡_};
 ghost use Prim.Native.Nat.{_-_};
 ghost use lib.ListN.{length};
 ghost use Rattle.wire.specs.Bytes.{pick};
 ghost use Rattle.dss_reader.specs.Reader.{frameEnd, isEnd};
-ghost use Rattle.gateway_words.specs.Words.{Answered};
+ghost use Rattle.gateway_words.specs.AnswerWords.{Answered};
 ghost use Rattle.gateway_reader.specs.ReaderWords.{endWords, frameWords, ReadsFrame};
 use dss_reader::DssReader;
 use dss_reader::FrameEnd;

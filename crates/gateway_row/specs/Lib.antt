@@ -1,3 +1,1 @@
 pub mod RowWords
-pub mod LaidWords
-pub mod RecordBack

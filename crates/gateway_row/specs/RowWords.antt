@@ -1,13 +1,13 @@
 -- How a frame, and a row of records, go to a caller in C or Rust: a frame in an answer's eight words, a record of a row in ten, one
 -- record behind the other.
-use Prim.Native.Nat.{ℕ, _+_, _/_}
+use Prim.Native.Nat.{ℕ, _+_, _/_, zero, suc}
 use mathlib.Core.List.{List, [], _∷_, _++_}
-use lib.ListN.{length}
+use lib.ListN.{length, take, drop}
 use Rattle.answer.specs.declared.Refused.{Refused}
 use Rattle.dss_head.specs.Heads.{typeByte, flagsByte}
 use Rattle.dss_head.specs.declared.DssHeader.{DssHeader}
 use Rattle.dss_frame.specs.declared.DssFrame.{DssFrame}
-use Rattle.gateway_words.specs.Words.{refusalWords}
+use Rattle.gateway_words.specs.AnswerWords.{answerLen, refusalWords}
 
 -- a head's format byte: the type's byte and the flags'
 abbrev pub formatByte : DssHeader → ℕ
@@ -40,12 +40,12 @@ refusedWords r first end = refusalWords r ++ stretch first end
 
 -- how many words a row's record has, and how many records a row has place for
 abbrev pub recordLen : ℕ
-recordLen = 10
+recordLen = answerLen + 2
 
 abbrev pub places : List ℕ → ℕ
 places row = length row / recordLen
 
--- the words of all records of a list, one record behind the other
-unfoldable pub joined : {A : Type 0} → (A → List ℕ) → List A → List ℕ
-joined words [] = []
-joined words (x ∷ xs) = words x ++ joined words xs
+-- so many records of so many words each, from a row's start on
+unfoldable pub cut : ℕ → ℕ → List ℕ → List (List ℕ)
+cut width zero row = []
+cut width (suc n) row = take width row ∷ cut width n (drop width row)

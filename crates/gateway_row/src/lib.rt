@@ -2,14 +2,20 @@
 // crates that export the port's functions call this.
 ghost use mathlib.Core.Path.{_≡_};
 ghost use Rattle.wire.specs.Bytes.{laid};
+ghost use Rattle.gateway_words.specs.AnswerWords.{answerLen};
 ghost use Rattle.gateway_row.specs.RowWords.{frameAt, stretch, recordWords, refusedWords};
 use answer::Refused;
 use dss_frame::DssFrame;
+use gateway_words::ANSWER_WORDS;
 use gateway_words::put_refusal;
 use gateway_words::put_words;
 
 // How many words a row's record has.
-pub const RECORD_WORDS: usize = 10;
+pub const RECORD_WORDS: usize = ANSWER_WORDS + 2;
+// Where its last two stand, behind those that an answer has: where the frame started, and the byte after it.
+const FIRST_WORD: usize = ANSWER_WORDS;
+
+const END_WORD: usize = ANSWER_WORDS + 1;
 
 // A frame's eight words, with a place in the second one and a number in the last, at the start, where there are eight.
 pub fn put_frame(words: &mut [u64], place: usize, last: usize, frame: DssFrame)
@@ -36,13 +42,13 @@ pub fn put_frame(words: &mut [u64], place: usize, last: usize, frame: DssFrame)
 
 // Where a record's frame stood: two words behind its eight, where there are ten.
 pub(crate) fn put_stretch(words: &mut [u64], first: usize, end: usize)
-    ensures { λ _. ⌜ now (words .exit) ≡ laid (now (words .entry)) 8 (stretch first end) ⌝ }
+    ensures { λ _. ⌜ now (words .exit) ≡ laid (now (words .entry)) answerLen (stretch first end) ⌝ }
 {
     if words.len() < RECORD_WORDS {
         return;
     }
-    words[8] = first as u64;
-    words[9] = end as u64;
+    words[FIRST_WORD] = first as u64;
+    words[END_WORD] = end as u64;
 }
 
 // A frame's record in a row, at the start, where there are ten words.

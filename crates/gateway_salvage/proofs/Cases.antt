@@ -4,11 +4,12 @@ use Prim.Native.Nat.{ℕ}
 use mathlib.Core.Path.{_≡_, refl}
 use mathlib.Core.List.{List, [], _∷_, _++_}
 use lib.ListN.{replicate}
-use Rattle.wire.specs.Bytes.{splice, landed}
+use Rattle.wire.specs.Bytes.{splice, landed, joined}
 use Rattle.dss_frame.specs.Segments.{payloadOf, endOf}
 use Rattle.dss_frame.specs.Salvage.{salvaged}
-use Rattle.dss_salvage.specs.SalvageCall.{salvagedBytes, salvagedRow, entriesFit, given}
-use Rattle.gateway_row.specs.RowWords.{places, joined}
+use Rattle.dss_salvage.specs.SalvageEntries.{salvagedBytes, salvagedRow}
+use Rattle.dss_salvage_call.specs.SalvageCall.{entriesFit, givenEntries}
+use Rattle.gateway_row.specs.RowWords.{places}
 use Rattle.gateway_salvage.specs.SalvageWords.{entryWords, salvagedWords}
 
 -- ---- the runs
@@ -30,7 +31,7 @@ spoilt = p9 ++ ((0x00 ∷ 0x08 ∷ 0xD0 ∷ 0x06 ∷ 0x00 ∷ 0x07 ∷ 0xC1 ∷ 
 -- ---- what is answered, and what the row then holds
 
 answer : List ℕ → ℕ → ℕ → List ℕ
-answer s size rows = salvagedWords (given s size rows (salvaged s))
+answer s size rows = salvagedWords (givenEntries s size rows (salvaged s))
 
 row-of : List ℕ → ℕ → List ℕ → List ℕ
 row-of s size row = landed (entriesFit s (salvaged s .entries) size (places row)) row (joined entryWords (salvagedRow s 0 (salvaged s .entries)))

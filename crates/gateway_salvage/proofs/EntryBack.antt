@@ -6,8 +6,9 @@ use lib.ListN.{length}
 use Rattle.dss_salvage.specs.declared.Entry.{Entry}
 use Rattle.dss_salvage.specs.declared.Entry.the-variants.{Frame, Refused as Refuses}
 use Rattle.dss_salvage.specs.declared.SalvageEntry.{SalvageEntry}
-use Rattle.gateway_row.specs.RowWords.{recordLen, joined}
-use Rattle.gateway_row.specs.RecordBack.{record-back, refused-back, never-both, joined-back}
+use Rattle.gateway_row.specs.RowWords.{recordLen}
+use Rattle.wire.specs.Bytes.{joined}
+use Rattle.gateway_row.proofs.RecordBack.{record-back, refused-back, never-both, joined-back}
 use Rattle.gateway_salvage.specs.SalvageWords.{wordsOf, entryWords}
 
 words-back : (x y : Entry) → wordsOf x ≡ wordsOf y → x ≡ y

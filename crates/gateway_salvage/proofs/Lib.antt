@@ -1,3 +1,4 @@
+pub mod LaidEntries
 pub mod Unique
 pub mod Cases
 pub mod EntryBack

@@ -1,2 +1,1 @@
 pub mod SalvageWords
-pub mod LaidEntries

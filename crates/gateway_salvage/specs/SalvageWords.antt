@@ -1,18 +1,18 @@
 -- The salvage reading for a caller in C or Rust: what is answered in words, and what the lent room and the lent row then hold.
 use Prim.Native.Nat.{ℕ}
-use mathlib.Core.Path.{_≡_}
 use mathlib.Core.List.{List}
 use lib.ListN.{length}
-use Rattle.wire.specs.Bytes.{landed}
+use Rattle.wire.specs.Bytes.{landed, joined}
 use Rattle.dss_frame.specs.Salvage.{salvaged}
-use Rattle.dss_salvage.specs.SalvageCall.{salvagedBytes, salvagedRow, entriesFit, given}
+use Rattle.dss_salvage.specs.SalvageEntries.{salvagedBytes, salvagedRow}
+use Rattle.dss_salvage_call.specs.SalvageCall.{entriesFit, givenEntries}
 use Rattle.dss_salvage.specs.declared.Entry.{Entry}
 use Rattle.dss_salvage.specs.declared.Entry.the-variants.{Frame, Refused as Refuses}
 use Rattle.dss_salvage.specs.declared.SalvageEntry.{SalvageEntry}
 use Rattle.dss_salvage.specs.declared.Salvaged.{Salvaged}
 use Rattle.dss_salvage.specs.declared.Salvaged.the-variants.{Done, Refused as NotSalvaged}
-use Rattle.gateway_words.specs.Words.{refusalWords, doneWords, Answered}
-use Rattle.gateway_row.specs.RowWords.{recordWords, refusedWords, places, joined}
+use Rattle.gateway_words.specs.AnswerWords.{refusalWords, doneWords, LeavesRow}
+use Rattle.gateway_row.specs.RowWords.{recordWords, refusedWords, places}
 
 -- "Entries are listed in order, one record each, a refusal's without payload": a frame's first word is 0, a refusal's its number; the
 -- last two say where it stood
@@ -29,7 +29,8 @@ salvagedWords (Done count bytes tail) = doneWords count bytes tail 0
 salvagedWords (NotSalvaged r) = refusalWords r
 
 -- what salvaging a run answers, and what the lent words, room and row then hold
-pub record SalvagesInWords (s room row words : List ℕ) (r : ℕ) (room-after row-after words-after : List ℕ) : Type 0 where
-  pub answers : Answered (salvagedWords (given s (length room) (places row) (salvaged s))) words r words-after
-  pub room-is : room-after ≡ landed (entriesFit s (salvaged s .entries) (length room) (places row)) room (salvagedBytes s (salvaged s .entries))
-  pub row-is : row-after ≡ landed (entriesFit s (salvaged s .entries) (length room) (places row)) row (joined entryWords (salvagedRow s 0 (salvaged s .entries)))
+abbrev pub SalvagesInWords : List ℕ → List ℕ → List ℕ → List ℕ → ℕ → List ℕ → List ℕ → List ℕ → Type 0
+SalvagesInWords s room row =
+    LeavesRow (salvagedWords (givenEntries s (length room) (places row) (salvaged s)))
+    (landed (entriesFit s (salvaged s .entries) (length room) (places row)) room (salvagedBytes s (salvaged s .entries)))
+    (landed (entriesFit s (salvaged s .entries) (length room) (places row)) row (joined entryWords (salvagedRow s 0 (salvaged s .entries))))

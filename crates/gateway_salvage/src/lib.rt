@@ -1,12 +1,13 @@
-// The salvage reading for C and Rust: document 01, "Salvage reading". Slices, numbers and words go as in the crate gateway. The
+// The salvage reading for C and Rust: document 01, "Salvage reading". Slices, numbers and words go as in the crate gateway_head. The
 // row of entries is lent as words, ten a record.
 ghost use mathlib.Core.Path.{_≡_};
 ghost use Prim.Native.Nat.{_*_, _≤_};
 ghost use lib.ListN.{length};
-ghost use Rattle.wire.specs.Bytes.{splice};
-ghost use Rattle.dss_salvage_row.specs.Entries.{recordsFrom, startsAt};
-ghost use Rattle.gateway_words.specs.Words.{Answered};
-ghost use Rattle.gateway_row.specs.RowWords.{recordLen, joined};
+ghost use Rattle.wire.specs.Bytes.{splice, joined};
+ghost use Rattle.dss_frame.specs.inner.RowStart.{startsAt};
+ghost use Rattle.dss_salvage_row.specs.inner.EntryRows.{entryRecordsFrom};
+ghost use Rattle.gateway_words.specs.AnswerWords.{Answered};
+ghost use Rattle.gateway_row.specs.RowWords.{recordLen};
 ghost use Rattle.gateway_salvage.specs.SalvageWords.{entryWords, salvagedWords, SalvagesInWords};
 use dss_salvage::Salvaged;
 use dss_salvage::Step;
@@ -19,7 +20,7 @@ use gateway_words::put_refusal;
 // The records of so many entries of a run, ten words each, with their payloads end to end.
 pub(crate) fn lay_entries(run: &[u8], count: usize, row: &mut [u64])
     requires { ⌜ recordLen * count ≤ length (now row) ⌝ }
-    ensures { λ _. ⌜ now (row .exit) ≡ splice (now (row .entry)) 0 (joined entryWords (recordsFrom count (now (run .entry)) (startsAt 0 count))) ⌝ }
+    ensures { λ _. ⌜ now (row .exit) ≡ splice (now (row .entry)) 0 (joined entryWords (entryRecordsFrom count (now (run .entry)) (startsAt 0 count))) ⌝ }
 {
     let mut at = 0;
     let mut payload_at = 0;
@@ -27,7 +28,7 @@ pub(crate) fn lay_entries(run: &[u8], count: usize, row: &mut [u64])
     let mut left = count;
     while 0 < left {
         let next = filled + RECORD_WORDS;
-        match dss_salvage::entry_at(run, at) {
+        match dss_salvage::step_at(run, at) {
             Step::Frame(measure) => {
                 let record = measure.record(at, payload_at);
                 put_record(&mut row[filled..next], record);
@@ -75,7 +76,7 @@ pub extern "C" fn lattrugone_salvage(
 ) -> u8
     ensures { λ r. ⌜ SalvagesInWords (now (run .entry)) (now (room .entry)) (now (row .entry)) (now (words .entry)) r (now (room .exit)) (now (row .exit)) (now (words .exit)) ⌝ }
 {
-    let salvaged = dss_salvage_call::gather(run, room, row.len() / RECORD_WORDS);
+    let salvaged = dss_salvage_call::gather_entries(run, room, row.len() / RECORD_WORDS);
     let count = dss_salvage_call::entries_in(salvaged);
     lay_entries(run, count, row);
     put_salvaged(words, salvaged)

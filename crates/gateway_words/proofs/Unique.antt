@@ -6,7 +6,7 @@ use contract.Lifetimes.{Lfts}
 use denote.Ref.{RefT, at-last}
 use Rattle.answer.specs.declared.Refused.{Refused}
 use Rattle.answer.specs.declared.Laid.{Laid}
-use Rattle.gateway_words.specs.Words.{Answered}
+use Rattle.gateway_words.specs.AnswerWords.{Answered, Leaves, LeavesRow}
 use Rattle.gateway_words.proofs.put_words.Reads as put-words
 use Rattle.gateway_words.proofs.put_done.Reads as put-done
 use Rattle.gateway_words.proofs.put_refusal.Reads as put-refusal
@@ -15,6 +15,19 @@ use Rattle.gateway_words.proofs.put_laid.Reads as put-laid
 -- an answer in words leaves no choice
 pub answered-one : {answer words : List ℕ} {r r′ : ℕ} {l l′ : List ℕ} → Answered answer words r l → Answered answer words r′ l′ → (r ≡ r′) × (l ≡ l′)
 answered-one p q = (p .number-is ∙ sym (q .number-is), p .words-are ∙ sym (q .words-are))
+
+-- nor does one beside a lent room, or a room and a row
+pub leaves-one : {answer room words : List ℕ} {r r′ : ℕ} {k k′ l l′ : List ℕ} → Leaves answer room words r k l → Leaves answer room words r′ k′ l′
+    → (r ≡ r′) × (l ≡ l′) × (k ≡ k′)
+leaves-one {r = r} {r′ = r′} {l = l} {l′ = l′} p q =
+    let w : (r ≡ r′) × (l ≡ l′) = answered-one (p .answers) (q .answers) in
+    (w .0, w .1, p .room-is ∙ sym (q .room-is))
+
+pub leaves-row-one : {answer room row words : List ℕ} {r r′ : ℕ} {k k′ m m′ l l′ : List ℕ} → LeavesRow answer room row words r k m l → LeavesRow answer room row words r′ k′ m′ l′
+    → (r ≡ r′) × (l ≡ l′) × (k ≡ k′) × (m ≡ m′)
+leaves-row-one {r = r} {r′ = r′} {l = l} {l′ = l′} p q =
+    let w : (r ≡ r′) × (l ≡ l′) = answered-one (p .answers) (q .answers) in
+    (w .0, w .1, p .room-is ∙ sym (q .room-is), p .row-is ∙ sym (q .row-is))
 
 module _ (κs : Lfts 1) (words : RefT (List ℕ)) (l l′ : List ℕ) where
   pub put-words-one : (a b c d e f g h : ℕ)

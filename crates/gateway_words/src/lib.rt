@@ -3,15 +3,18 @@
 ghost use mathlib.Core.Path.{_≡_};
 ghost use mathlib.Core.List.{[], _∷_};
 ghost use Rattle.wire.specs.Bytes.{laid};
-ghost use Rattle.gateway_words.specs.Words.{refusalWords, doneWords, laidWords, Answered};
+ghost use Rattle.gateway_words.specs.AnswerWords.{refusalWords, doneWords, laidWords, Answered};
 use answer::Laid;
 use answer::Refused;
+
+// How many words an answer has.
+pub const ANSWER_WORDS: usize = 8;
 
 // Lays eight words down at the start, where there are eight.
 pub fn put_words(words: &mut [u64], a: u64, b: u64, c: u64, d: u64, e: u64, f: u64, g: u64, h: u64)
     ensures { λ _. ⌜ now (words .exit) ≡ laid (now (words .entry)) 0 (a ∷ b ∷ c ∷ d ∷ e ∷ f ∷ g ∷ h ∷ []) ⌝ }
 {
-    if words.len() < 8 {
+    if words.len() < ANSWER_WORDS {
         return;
     }
     words[0] = a;

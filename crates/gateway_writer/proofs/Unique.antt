@@ -5,12 +5,7 @@ use mathlib.Core.Path.{_≡_, sym, _∙_}
 use mathlib.Core.List.{List}
 use contract.Lifetimes.{Lfts}
 use denote.Ref.{RefT, at-last}
-use Rattle.dss_head.specs.declared.DssType.{DssType}
-use Rattle.dss_head.specs.declared.TypeFound.{TypeFound}
-use Rattle.dss_frame.specs.Written.{Sent}
-use Rattle.dss_writer.specs.declared.DssWriter.{DssWriter}
-use Rattle.gateway_writer.specs.WriterWords.{Sends, Builds}
-use Rattle.gateway_words.proofs.Unique.{answered-one}
+use Rattle.gateway_words.proofs.Unique.{leaves-one}
 use Rattle.gateway_writer.proofs.lattrugone_frame_size.Reads as frame-size
 use Rattle.gateway_writer.proofs.lattrugone_next_correlation_id.Reads as next-correlation-id
 use Rattle.gateway_writer.proofs.lattrugone_write_dss_full.Reads as write-dss-full
@@ -22,20 +17,6 @@ use Rattle.gateway_writer.proofs.lattrugone_write_object_same_corr.Read
 use Rattle.gateway_writer.proofs.lattrugone_write_request_next_same_corr.Reads as write-request-next-same-corr
 use Rattle.gateway_writer.proofs.lattrugone_build_dss_request.Reads as build-dss-request
 use Rattle.gateway_writer.proofs.lattrugone_build_dss_object.Reads as build-dss-object
-
--- ---- the records that the contracts cite
-
-module _ {room words : List ℕ} {r r′ : ℕ} {k k′ l l′ : List ℕ} where
-  sends-one : {found : TypeFound} {w : DssWriter} {f : DssType → Sent} → Sends found w f room words r k l → Sends found w f room words r′ k′ l′
-      → (r ≡ r′) × (l ≡ l′) × (k ≡ k′)
-  sends-one p q =
-      let w : (r ≡ r′) × (l ≡ l′) = answered-one (p .answers) (q .answers) in
-      (w .0, w .1, p .room-is ∙ sym (q .room-is))
-
-  builds-one : {bytes : List ℕ} → Builds bytes room words r k l → Builds bytes room words r′ k′ l′ → (r ≡ r′) × (l ≡ l′) × (k ≡ k′)
-  builds-one p q =
-      let w : (r ≡ r′) × (l ≡ l′) = answered-one (p .answers) (q .answers) in
-      (w .0, w .1, p .room-is ∙ sym (q .room-is))
 
 -- ---- the functions
 
@@ -51,52 +32,52 @@ module _ (κs : Lfts 3) (id : ℕ) (payload room words : RefT (List ℕ)) (r r�
       → write-dss-full.Post κs (id, (fill, (t, (flags, (payload, (room, (words, tt))))))) r (id, (fill, (t, (flags, (payload, (at-last room k, (at-last words l, tt)))))))
       → write-dss-full.Post κs (id, (fill, (t, (flags, (payload, (room, (words, tt))))))) r′ (id, (fill, (t, (flags, (payload, (at-last room k′, (at-last words l′, tt)))))))
       → (r ≡ r′) × (l ≡ l′) × (k ≡ k′)
-  write-dss-full-one fill t flags p q = sends-one p q
+  write-dss-full-one fill t flags p q = leaves-one p q
 
   pub write-dss-one : (fill t chained : ℕ)
       → write-dss.Post κs (id, (fill, (t, (chained, (payload, (room, (words, tt))))))) r (id, (fill, (t, (chained, (payload, (at-last room k, (at-last words l, tt)))))))
       → write-dss.Post κs (id, (fill, (t, (chained, (payload, (room, (words, tt))))))) r′ (id, (fill, (t, (chained, (payload, (at-last room k′, (at-last words l′, tt)))))))
       → (r ≡ r′) × (l ≡ l′) × (k ≡ k′)
-  write-dss-one fill t chained p q = sends-one p q
+  write-dss-one fill t chained p q = leaves-one p q
 
   pub write-request-one : (fill chained : ℕ)
       → write-request.Post κs (id, (fill, (chained, (payload, (room, (words, tt)))))) r (id, (fill, (chained, (payload, (at-last room k, (at-last words l, tt))))))
       → write-request.Post κs (id, (fill, (chained, (payload, (room, (words, tt)))))) r′ (id, (fill, (chained, (payload, (at-last room k′, (at-last words l′, tt))))))
       → (r ≡ r′) × (l ≡ l′) × (k ≡ k′)
-  write-request-one fill chained p q = sends-one p q
+  write-request-one fill chained p q = leaves-one p q
 
   pub write-request-no-reply-one : (fill chained : ℕ)
       → write-request-no-reply.Post κs (id, (fill, (chained, (payload, (room, (words, tt)))))) r (id, (fill, (chained, (payload, (at-last room k, (at-last words l, tt))))))
       → write-request-no-reply.Post κs (id, (fill, (chained, (payload, (room, (words, tt)))))) r′ (id, (fill, (chained, (payload, (at-last room k′, (at-last words l′, tt))))))
       → (r ≡ r′) × (l ≡ l′) × (k ≡ k′)
-  write-request-no-reply-one fill chained p q = sends-one p q
+  write-request-no-reply-one fill chained p q = leaves-one p q
 
   pub write-object-one : (fill chained : ℕ)
       → write-object.Post κs (id, (fill, (chained, (payload, (room, (words, tt)))))) r (id, (fill, (chained, (payload, (at-last room k, (at-last words l, tt))))))
       → write-object.Post κs (id, (fill, (chained, (payload, (room, (words, tt)))))) r′ (id, (fill, (chained, (payload, (at-last room k′, (at-last words l′, tt))))))
       → (r ≡ r′) × (l ≡ l′) × (k ≡ k′)
-  write-object-one fill chained p q = sends-one p q
+  write-object-one fill chained p q = leaves-one p q
 
   pub write-object-same-corr-one : (fill chained : ℕ)
       → write-object-same-corr.Post κs (id, (fill, (chained, (payload, (room, (words, tt)))))) r (id, (fill, (chained, (payload, (at-last room k, (at-last words l, tt))))))
       → write-object-same-corr.Post κs (id, (fill, (chained, (payload, (room, (words, tt)))))) r′ (id, (fill, (chained, (payload, (at-last room k′, (at-last words l′, tt))))))
       → (r ≡ r′) × (l ≡ l′) × (k ≡ k′)
-  write-object-same-corr-one fill chained p q = sends-one p q
+  write-object-same-corr-one fill chained p q = leaves-one p q
 
   pub write-request-next-same-corr-one : (fill chained : ℕ)
       → write-request-next-same-corr.Post κs (id, (fill, (chained, (payload, (room, (words, tt)))))) r (id, (fill, (chained, (payload, (at-last room k, (at-last words l, tt))))))
       → write-request-next-same-corr.Post κs (id, (fill, (chained, (payload, (room, (words, tt)))))) r′ (id, (fill, (chained, (payload, (at-last room k′, (at-last words l′, tt))))))
       → (r ≡ r′) × (l ≡ l′) × (k ≡ k′)
-  write-request-next-same-corr-one fill chained p q = sends-one p q
+  write-request-next-same-corr-one fill chained p q = leaves-one p q
 
   pub build-dss-request-one : (chained : ℕ)
       → build-dss-request.Post κs (id, (chained, (payload, (room, (words, tt))))) r (id, (chained, (payload, (at-last room k, (at-last words l, tt)))))
       → build-dss-request.Post κs (id, (chained, (payload, (room, (words, tt))))) r′ (id, (chained, (payload, (at-last room k′, (at-last words l′, tt)))))
       → (r ≡ r′) × (l ≡ l′) × (k ≡ k′)
-  build-dss-request-one chained p q = builds-one p q
+  build-dss-request-one chained p q = leaves-one p q
 
   pub build-dss-object-one : (chained : ℕ)
       → build-dss-object.Post κs (id, (chained, (payload, (room, (words, tt))))) r (id, (chained, (payload, (at-last room k, (at-last words l, tt)))))
       → build-dss-object.Post κs (id, (chained, (payload, (room, (words, tt))))) r′ (id, (chained, (payload, (at-last room k′, (at-last words l′, tt)))))
       → (r ≡ r′) × (l ≡ l′) × (k ≡ k′)
-  build-dss-object-one chained p q = builds-one p q
+  build-dss-object-one chained p q = leaves-one p q

@@ -1,13 +1,12 @@
 -- Module 2 for a caller in C or Rust: a frame to be written, of numbers and bytes, and what its writing answers in words and
 -- leaves in the lent room.
 use Prim.Native.Nat.{ℕ}
-use mathlib.Core.Path.{_≡_}
 use mathlib.Core.Bool.{Bool}
 use mathlib.Core.List.{List}
 use lib.Dec.{ltb, leb}
 use lib.ListN.{length}
 use Rattle.wire.specs.Bytes.{pick, laid}
-use Rattle.answer.specs.Rooms.{outOfBounds, laidAtStart}
+use Rattle.answer.specs.Rooms.{outOfBounds}
 use Rattle.answer.specs.declared.Refused.{Refused}
 use Rattle.dss_head.specs.declared.DssType.{DssType}
 use Rattle.dss_head.specs.declared.TypeFound.{TypeFound}
@@ -17,7 +16,7 @@ use Rattle.dss_writer.specs.Writer.{sent, wrote}
 use Rattle.dss_writer.specs.declared.DssWriter.{DssWriter}
 use Rattle.dss_writer.specs.declared.Wrote.{Wrote}
 use Rattle.dss_writer.specs.declared.Wrote.the-variants.{Done, Refused as NotWritten}
-use Rattle.gateway_words.specs.Words.{refusalWords, doneWords, laidWords, Answered}
+use Rattle.gateway_words.specs.AnswerWords.{refusalWords, doneWords, Leaves}
 
 -- ---- what a call is given
 
@@ -55,12 +54,5 @@ roomTyped (Is t) w f room = laid room (w .fill) (written (f t))
 roomTyped (NoType r) w f room = room
 
 -- what a call answers, and what the lent words and the lent room then hold
-pub record Sends (found : TypeFound) (w : DssWriter) (f : DssType → Sent) (room words : List ℕ) (r : ℕ) (room-after words-after : List ℕ) : Type 0 where
-  pub answers : Answered (wroteWords (wroteTyped found w f (length room))) words r words-after
-  pub room-is : room-after ≡ roomTyped found w f room
-
--- ---- a frame at the room's first byte
-
-pub record Builds (bytes room words : List ℕ) (r : ℕ) (room-after words-after : List ℕ) : Type 0 where
-  pub answers : Answered (laidWords (laidAtStart 0 (length room) (length bytes))) words r words-after
-  pub room-is : room-after ≡ laid room 0 bytes
+abbrev pub Sends : TypeFound → DssWriter → (DssType → Sent) → List ℕ → List ℕ → ℕ → List ℕ → List ℕ → Type 0
+Sends found w f room = Leaves (wroteWords (wroteTyped found w f (length room))) (roomTyped found w f room)

@@ -1,4 +1,4 @@
-// The writer for C and Rust: document 01, module 2. Slices, numbers and words go as in the crate gateway. A writer goes in as
+// The writer for C and Rust: document 01, module 2. Slices, numbers and words go as in the crate gateway_head. A writer goes in as
 // its correlation and its fill mark; a type is its byte, refused as by type_from_byte behind 10; yes is any byte but 0.
 ghost use mathlib.Core.Path.{_≡_};
 ghost use mathlib.Core.Bool.{true, false};
@@ -7,10 +7,9 @@ ghost use Rattle.dss_head.specs.Heads.{typeAt, bit};
 ghost use Rattle.dss_head.specs.declared.DssType.the-variants.{Request as asRequest, Object as asObject, NoReply as asNoReply};
 ghost use Rattle.dss_head.specs.declared.TypeFound.the-variants.{Is as is};
 ghost use Rattle.dss_frame.specs.Written.{written, frameSize};
-ghost use Rattle.dss_writer.specs.Writer.{fresh, nextCorrelation};
-ghost use Rattle.gateway_words.specs.Words.{Answered};
-ghost use Rattle.gateway_writer.specs.WriterWords.{writerOf, frameOf, yes, wroteWords, markFirst, Sends, Builds};
-use answer::Refusal;
+ghost use Rattle.dss_writer.specs.Writer.{freshWriter, nextCorrelation};
+ghost use Rattle.gateway_words.specs.AnswerWords.{Answered, LaysInWords};
+ghost use Rattle.gateway_writer.specs.WriterWords.{writerOf, frameOf, yes, wroteWords, markFirst, Sends};
 use answer::Refused;
 use dss_head::DssFlags;
 use dss_head::DssType;
@@ -42,11 +41,7 @@ pub(crate) fn mark_first(fill: usize, size: usize, refused: Refused) -> Refused
     ensures { λ r. ⌜ r ≡ markFirst fill size refused ⌝ }
 {
     if size < fill {
-        let why = Refusal::OutOfBounds {
-            mark: fill,
-            length: size,
-        };
-        return Refused { why, place: fill };
+        return Refused::out_of_bounds(fill, size);
     }
     refused
 }
@@ -61,7 +56,7 @@ pub extern "C" fn lattrugone_frame_size(payload_len: usize) -> usize
 
 #[no_mangle]
 pub extern "C" fn lattrugone_next_correlation_id(id: u16) -> u16
-    ensures { λ r. ⌜ r ≡ nextCorrelation (fresh id) .«correlation_id» ⌝ }
+    ensures { λ r. ⌜ r ≡ nextCorrelation (freshWriter id) .«correlation_id» ⌝ }
 {
     let writer = DssWriter::new(id).next_correlation_id();
     writer.correlation_id
@@ -226,7 +221,7 @@ pub extern "C" fn lattrugone_build_dss_request(
     room: &mut [u8],
     words: &mut [u64],
 ) -> u8
-    ensures { λ r. ⌜ Builds (written (frameOf «correlation_id» (yes chained) false (now (payload .entry)) asRequest)) (now (room .entry)) (now (words .entry)) r (now (room .exit)) (now (words .exit)) ⌝ }
+    ensures { λ r. ⌜ LaysInWords (written (frameOf «correlation_id» (yes chained) false (now (payload .entry)) asRequest)) (now (room .entry)) (now (words .entry)) r (now (room .exit)) (now (words .exit)) ⌝ }
 {
     let laid = dss_writer::build_dss_request(correlation_id, chained > 0, payload, room);
     put_laid(words, laid)
@@ -240,7 +235,7 @@ pub extern "C" fn lattrugone_build_dss_object(
     room: &mut [u8],
     words: &mut [u64],
 ) -> u8
-    ensures { λ r. ⌜ Builds (written (frameOf «correlation_id» (yes chained) false (now (payload .entry)) asObject)) (now (room .entry)) (now (words .entry)) r (now (room .exit)) (now (words .exit)) ⌝ }
+    ensures { λ r. ⌜ LaysInWords (written (frameOf «correlation_id» (yes chained) false (now (payload .entry)) asObject)) (now (room .entry)) (now (words .entry)) r (now (room .exit)) (now (words .exit)) ⌝ }
 {
     let laid = dss_writer::build_dss_object(correlation_id, chained > 0, payload, room);
     put_laid(words, laid)

@@ -1,8 +1,8 @@
 // A row of objects or parameters.
 ghost use lib.ListN.{replicate};
-ghost use Rattle.ddm_object.specs.ObjectCalls.{ParsesObjects, ListsParameters};
+ghost use Rattle.ddm_rows.specs.ListCalls.{ParsesObjects, ListsParameters};
 use ddm_object::DdmObject;
-use ddm_object::ObjectsFound;
+use ddm_rows::ObjectsFound;
 
 // What the call answered, and the row as it left it.
 pub struct ObjectsRow {
@@ -15,7 +15,7 @@ pub fn objects_row(bytes: &[u8], work: &mut [u8], blank: DdmObject) -> ObjectsRo
     ensures { λ r. ⌜ ParsesObjects (now (bytes .entry)) (now (work .entry)) (replicate 16 blank) (r .answer) (now (work .exit)) (r .row) ⌝ }
 {
     let mut row = [blank; 16];
-    let answer = ddm_object::parse_ddm_objects(bytes, work, &mut row);
+    let answer = ddm_rows::parse_ddm_objects(bytes, work, &mut row);
     ObjectsRow { answer, row }
 }
 
@@ -24,6 +24,6 @@ pub fn parameters_row(data: &[u8], work: &mut [u8], blank: DdmObject) -> Objects
     ensures { λ r. ⌜ ListsParameters (now («data» .entry)) (now (work .entry)) (replicate 16 blank) (r .answer) (now (work .exit)) (r .row) ⌝ }
 {
     let mut row = [blank; 16];
-    let answer = ddm_object::parameters(data, work, &mut row);
+    let answer = ddm_rows::parameters(data, work, &mut row);
     ObjectsRow { answer, row }
 }

@@ -8,7 +8,7 @@ use lib.ListN.{getD}
 use Rattle.wire.specs.Bytes.{pick}
 use Rattle.answer.specs.Numbers.{numberOf, valuesOf}
 use Rattle.answer.specs.declared.Refused.{Refused}
-use Rattle.text.specs.Texts.{text, joined, decimal}
+use Rattle.text.specs.Texts.{text, together, decimal}
 use Rattle.dss_head.specs.declared.DssType.{DssType}
 use Rattle.dss_head.specs.declared.DssType.the-variants.{Request, Reply, Object, Communication, NoReply}
 use Rattle.dss_head.specs.declared.DssFlags.{DssFlags}
@@ -34,9 +34,9 @@ numbered word n = text word ++ decimal n
 
 -- "Fields: first byte, type, flags, correlation, segments, payload length"
 unfoldable pub frameText : ℕ → DssHeader → ℕ → ℕ → List ℕ
-unfolding joined decimal
+unfolding together decimal
 frameText first h segments bytes =
-    joined
+    together
     (numbered "at " first
     ∷ text " " ∷ typeText (h .«dss_type»)
     ∷ text " " ∷ flagsText (h .flags)
@@ -47,12 +47,12 @@ frameText first h segments bytes =
 
 -- "then position and bytes left"
 unfoldable pub endText : ℕ → ℕ → List ℕ
-unfolding joined decimal
-endText position left = joined (numbered "end " position ∷ numbered " left " left ∷ text "\n" ∷ [])
+unfolding together decimal
+endText position left = together (numbered "end " position ∷ numbered " left " left ∷ text "\n" ∷ [])
 
 -- "`refused N at POSITION value V`": its number, its place, which is where the position then stands, and its first value
 unfoldable pub refusedText : Refused → List ℕ
-unfolding joined decimal
+unfolding together decimal
 refusedText r =
-    joined
+    together
     (numbered "refused " (numberOf (r .why)) ∷ numbered " at " (r .place) ∷ numbered " value " (getD (valuesOf (r .why)) 0 0) ∷ text "\n" ∷ [])

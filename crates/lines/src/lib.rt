@@ -1,7 +1,7 @@
 // The lines of `framelist` and `salvagelist`: document 01, the last part of "Both sides of each edge".
 ghost use mathlib.Core.Path.{_≡_};
 ghost use Rattle.wire.specs.Bytes.{pick};
-ghost use Rattle.text.specs.Puts.{Puts};
+ghost use Rattle.text.specs.inner.Puts.{Puts};
 ghost use Rattle.lines.specs.Lines.{typeText, flagsText, frameText, refusedText, endText};
 use answer::Refused;
 use dss_head::DssFlags;

@@ -4,13 +4,13 @@ use mathlib.Core.Path.{_≡_, refl, ap, _∙_}
 use mathlib.Core.List.{List, [], _∷_, _++_}
 use Prim.Native.Nat.{ℕ}
 use lib.ListN.{length, replicate, length-replicate}
-use Rattle.wire.specs.Bytes.{laid}
-use Rattle.wire.specs.Octets.{Octets, octets-tested}
+use Rattle.wire.specs.Bytes.{laid, Octets}
+use Rattle.wire.proofs.OctetLaws.{octets-tested}
 use Rattle.answer.specs.Rooms.{laidAtStart}
 use Rattle.answer.specs.declared.Laid.the-variants.{Bytes}
 use Rattle.text.specs.Texts.{text}
 use Rattle.dss_frame.specs.declared.Rules.the-variants.{Reader, Salvage}
-use Rattle.listing.specs.Lists.{listText}
+use Rattle.listing.specs.ListTexts.{listText}
 use Rattle.listing.proofs.Fits.{never-short}
 
 -- `000AD00100010004200D`, and P2

@@ -8,10 +8,9 @@ use lib.ListN.{length, take, length-append}
 use borrow.Author.Tests.{ltb-false, leb-true, leb-false, le-leb}
 use contract.Lifetimes.{Lfts}
 use denote.Ref.{RefT, at-last}
-use Rattle.wire.specs.Bytes.{be16, splice}
-use Rattle.wire.specs.Laws.{by, pick-by, pick-yes}
-use Rattle.wire.specs.Splice.{laid-fits, splice-written}
-use Rattle.wire.specs.Octets.{Octets}
+use Rattle.wire.specs.Bytes.{be16, splice, Octets}
+use Rattle.wire.proofs.WireLaws.{by, pick-by, pick-yes}
+use Rattle.wire.proofs.Splicing.{laid-fits, splice-written}
 use Rattle.answer.specs.Numbers.{notWhole}
 use Rattle.answer.specs.Rooms.{Lays}
 use Rattle.answer.specs.declared.Refused.{Refused}
@@ -22,11 +21,11 @@ use Rattle.dss_frame.specs.declared.Rules.the-variants.{Reader, Salvage}
 use Rattle.dss_frame.specs.Segments.{Walk, endOf, frameWalk}
 use Rattle.dss_frame.specs.Reading.{Frame, Read, frame, refused, readAt}
 use Rattle.dss_frame.specs.Salvage.{Salvaged, entry, stop, atWalk, salvageFuel, salvaged}
-use Rattle.dss_laws.specs.Bounds.{OfWhole, is-whole, is-short, is-dead, Six, walk-six, OfFrame, is-frame, Past, read-past}
-use Rattle.dss_row.specs.Thin.{Thin, read-thin}
+use Rattle.dss_laws.proofs.Bounds.{OfWhole, is-whole, is-short, is-dead, Six, walk-six, OfFrame, is-frame, Past, read-past}
+use Rattle.dss_laws.proofs.Thin.{Thin, read-thin}
 use Rattle.lines.specs.Lines.{refusedText}
-use Rattle.listing.specs.Lists.{frameLine, endLine, lineOn, linesFuel, linesFrom, framesText, entryLine, salvagedText, salvageText, listText}
-use Rattle.listing.specs.ListLaws.{text-entry, text-stop, list-long, list-frames, list-salvage}
+use Rattle.listing.specs.ListTexts.{frameLine, endLine, lineOn, linesFuel, linesFrom, framesText, entryLine, salvagedText, salvageText, listText}
+use Rattle.listing.proofs.ListLaws.{text-entry, text-stop, list-long, list-frames, list-salvage}
 use Rattle.listing.proofs.list.Reads as list
 use Rattle.listing.proofs.Sizes.{frame-size, end-size, refused-size}
 use Rattle.listing.proofs.Modest.{Modest, a-frame, a-refusal, read-modest}

@@ -1,3 +1,5 @@
+pub mod LayLaws
+pub mod ListLaws
 pub mod Unique
 pub mod Cases
 pub mod Sizes

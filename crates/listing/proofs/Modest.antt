@@ -7,14 +7,13 @@ use mathlib.Core.List.{List, [], _∷_, _++_}
 use lib.Dec.{ltb, leb, eqb}
 use lib.ListN.{length, getD, length-append}
 use borrow.Author.Tests.{ltb-true, leb-false}
-use Rattle.wire.specs.Bytes.{be16}
-use Rattle.wire.specs.Laws.{pick-by}
-use Rattle.wire.specs.Octets.{Octets}
+use Rattle.wire.specs.Bytes.{be16, Octets}
+use Rattle.wire.proofs.WireLaws.{pick-by}
 use Rattle.answer.specs.Numbers.{numberOf, valuesOf}
 use Rattle.answer.specs.declared.Refusal.the-variants.{Incomplete, LengthTooShort, DeadContinuation}
 use Rattle.answer.specs.declared.Refused.{Refused}
 use Rattle.dss_head.specs.Heads.{headWith, headAt}
-use Rattle.dss_head.specs.Types.{type-by}
+use Rattle.dss_head.proofs.TypeLaws.{type-by}
 use Rattle.dss_head.specs.declared.DssType.{DssType}
 use Rattle.dss_head.specs.declared.DssHeader.{DssHeader}
 use Rattle.dss_head.specs.declared.TypeFound.{TypeFound}
@@ -25,11 +24,11 @@ use Rattle.dss_frame.specs.declared.Rules.{Rules}
 use Rattle.dss_frame.specs.declared.Rules.the-variants.{Reader, Salvage}
 use Rattle.dss_frame.specs.Segments.{Segment, Walk, whole, behind, continuation, first, continuations, frameWalk, payloadOf, endOf}
 use Rattle.dss_frame.specs.Reading.{Look, finished, absorbs, refuses, refusal, look, lookAt, follows, ownObject, Frame, Read, frame, refused, withChained, behindFrame, absorb, absorbFuel, readHead, readWalk, readAt, startsExtended}
-use Rattle.dss_laws.specs.Ends.{end-snoc}
-use Rattle.dss_laws.specs.Dead.{OfDead, dead-at, Inside, frame-dead}
-use Rattle.dss_laws.specs.Looks.{Sound, finishes, takes, stops, Taken, look-sound}
-use Rattle.dss_laws.specs.WalkCases.{continuations-by, frame-by}
-use Rattle.dss_laws.specs.Bounds.{OfWhole, is-whole, is-short, is-dead, Six, walk-six}
+use Rattle.dss_laws.proofs.Ends.{end-snoc}
+use Rattle.dss_laws.proofs.DeadLengths.{OfDead, dead-at, Inside, frame-dead}
+use Rattle.dss_laws.proofs.Looking.{SoundLook, finishes, takes, stops, TakenLook, look-sound}
+use Rattle.dss_laws.proofs.WalkCases.{continuations-by, frame-by}
+use Rattle.dss_laws.proofs.Bounds.{OfWhole, is-whole, is-short, is-dead, Six, walk-six}
 
 -- ---- segments
 
@@ -134,8 +133,8 @@ module _ (s : List ℕ) (o : Octets s) where
       (look-small rules (h .«dss_type») (startsExtended (payloadOf s gs)) (endOf p gs) c)
       (λ g c t. absorb-modest k rules p (withChained h c) (gs ++ (g ∷ [])) a (few-snoc p gs g b (omega arith)) (rw end-snoc (omega arith)))
     where
-      by-look : (l : Look) → Sound s (endOf p gs) l → OfLook s l
-          → ((g : Segment) (c : Bool) → Taken s (endOf p gs) g → Modest s p (absorbFuel k rules s p (withChained h c) (gs ++ (g ∷ []))))
+      by-look : (l : Look) → SoundLook s (endOf p gs) l → OfLook s l
+          → ((g : Segment) (c : Bool) → TakenLook s (endOf p gs) g → Modest s p (absorbFuel k rules s p (withChained h c) (gs ++ (g ∷ []))))
           → Modest s p (behindFrame h gs l (λ h′ gs′. absorbFuel k rules s p h′ gs′))
       by-look l finishes i go = a-frame _ a b
       by-look l (takes g c t) i go = go g c t

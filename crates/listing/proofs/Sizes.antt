@@ -6,12 +6,12 @@ use mathlib.Core.List.{List, [], _∷_}
 use lib.Dec.{ltb, leb}
 use lib.ListN.{length, getD, length-append}
 use borrow.Author.Tests.{ltb-true, ltb-false, leb-true}
-use Rattle.wire.specs.Laws.{by}
+use Rattle.wire.proofs.WireLaws.{by}
 use Rattle.answer.specs.Numbers.{numberOf, valuesOf}
 use Rattle.answer.specs.declared.Refused.{Refused}
-use Rattle.text.specs.Texts.{text, joined, decimal}
-use Rattle.text.specs.TextLaws.{joined-more, decimal-one, decimal-more}
-use Rattle.dss_head.specs.Types.{every-type}
+use Rattle.text.specs.Texts.{text, together, decimal}
+use Rattle.text.proofs.TextLaws.{joined-more, decimal-one, decimal-more}
+use Rattle.dss_head.proofs.TypeLaws.{every-type}
 use Rattle.dss_head.specs.declared.DssType.{DssType}
 use Rattle.dss_head.specs.declared.DssHeader.{DssHeader}
 use Rattle.lines.specs.Lines.{typeText, flagsText, numbered, frameText, endText, refusedText}
@@ -38,11 +38,11 @@ five-digits = one-more 10000 4 (one-more 1000 3 (one-more 100 2 two-digits))
 
 -- ---- lines
 
-joined-size : (x : List ℕ) (xs : List (List ℕ)) → length (joined (x ∷ xs)) ≡ length x + length (joined xs)
-joined-size x xs = ap length (joined-more x xs) ∙ length-append x (joined xs)
+joined-size : (x : List ℕ) (xs : List (List ℕ)) → length (together (x ∷ xs)) ≡ length x + length (together xs)
+joined-size x xs = ap length (joined-more x xs) ∙ length-append x (together xs)
 
-joined-none : length (joined []) ≡ 0
-unfolding joined
+joined-none : length (together []) ≡ 0
+unfolding together
 joined-none = refl
 
 type-size : (t : DssType) → length (typeText t) ≤ 13
@@ -50,7 +50,7 @@ type-size t = leb-true (length (typeText t)) 13 (every-type (λ (u : DssType). l
 
 module _ (first : ℕ) (h : DssHeader) (segments bytes : ℕ) where
   frame-is : frameText first h segments bytes
-      ≡ joined
+      ≡ together
       (numbered "at " first
       ∷ text " " ∷ typeText (h .«dss_type»)
       ∷ text " " ∷ flagsText (h .flags)
@@ -69,7 +69,7 @@ module _ (first : ℕ) (h : DssHeader) (segments bytes : ℕ) where
       (omega (arith, type-size (h .«dss_type»), five-digits first a, five-digits (h .«correlation_id») b, five-digits segments c, five-digits bytes d)))
 
 module _ (position left : ℕ) where
-  end-is : endText position left ≡ joined (numbered "end " position ∷ numbered " left " left ∷ text "\n" ∷ [])
+  end-is : endText position left ≡ together (numbered "end " position ∷ numbered " left " left ∷ text "\n" ∷ [])
   unfolding endText
   end-is = refl
 
@@ -78,7 +78,7 @@ module _ (position left : ℕ) where
 
 module _ (r : Refused) where
   refused-is : refusedText r
-      ≡ joined
+      ≡ together
       (numbered "refused " (numberOf (r .why)) ∷ numbered " at " (r .place) ∷ numbered " value " (getD (valuesOf (r .why)) 0 0) ∷ text "\n" ∷ [])
   unfolding refusedText
   refused-is = refl

@@ -11,7 +11,7 @@ use Rattle.answer.specs.Rooms.{laidAtStart, Lays}
 use Rattle.answer.specs.declared.Laid.{Laid}
 use Rattle.dss_frame.specs.declared.Rules.{Rules}
 use Rattle.dss_frame.specs.declared.Rules.the-variants.{Reader, Salvage}
-use Rattle.listing.specs.Lists.{listText}
+use Rattle.listing.specs.ListTexts.{listText}
 use Rattle.listing.proofs.list.Reads as list
 use Rattle.listing.proofs.frame_list.Reads as frame-list
 use Rattle.listing.proofs.salvage_list.Reads as salvage-list

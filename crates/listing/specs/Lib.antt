@@ -1,3 +1,1 @@
-pub mod Lists
-pub mod ListLaws
-pub mod LayLaws
+pub mod ListTexts

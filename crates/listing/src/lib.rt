@@ -1,8 +1,8 @@
 // The text of `framelist` and `salvagelist`: document 01, the last part of "Both sides of each edge".
 ghost use Rattle.answer.specs.Rooms.{Lays};
 ghost use Rattle.dss_frame.specs.declared.Rules;
-ghost use Rattle.text.specs.Puts.{Puts};
-ghost use Rattle.listing.specs.Lists.{framesText, salvageText, listText};
+ghost use Rattle.text.specs.inner.Puts.{Puts};
+ghost use Rattle.listing.specs.ListTexts.{framesText, salvageText, listText};
 use answer::Laid;
 use answer::RoomFor;
 use dss_frame::Rules;
@@ -42,7 +42,7 @@ pub(crate) fn put_salvage(run: &[u8], room: &mut [u8]) -> usize
     let mut position = 0;
     let mut at = 0;
     loop {
-        match dss_salvage::entry_at(run, position) {
+        match dss_salvage::step_at(run, position) {
             Step::Frame(measure) => {
                 at = lines::put_frame(room, at, position, measure);
                 position = measure.end;

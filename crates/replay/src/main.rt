@@ -1,7 +1,13 @@
-// Replays the Rust's recorded answers (data/answers.bin; data/README says how they are made): each call again, with the same
-// input and the same lent buffers, and what it returns, its words and what every byte of room and row then holds compared. Says
-// which answers differ, the first few of them, and last how many there are and how many differ.
+// Replays the Rust's recorded answers to the calls that no exported function makes, those over rows of structs, an object's data
+// and the walker (data/answers.bin; data/README says how they are made): each call again, with the same input and the same lent
+// buffers, and what it returns, its words and what every byte of room and row then holds compared. Says which answers
+// differ, the first few of them, and last how many there are and how many differ.
+mod calls; // calls.rt: the calls by number
+mod frames; // frames.rt: all frames, the salvage reading
+mod objects; // objects.rt: all objects, all parameters
+mod parts; // parts.rt: an object's data, a walk over parameters
 mod turn; // turn.rt: one answer
+mod walker; // walker.rt: a walker, made, moved and asked
 
 ghost use mathlib.Core.Path.{_≡_};
 ghost use lib.ListN.{length};

@@ -1,8 +1,9 @@
 // One answer: the call made again, and what it comes to held to what is recorded.
 ghost use Prim.Native.Nat.{_≤_};
 ghost use lib.ListN.{length};
-use replay_calls::asked::Asked;
-use replay_calls::asked::asked_at;
+use super::calls::made;
+use replay_list::asked::Asked;
+use replay_list::asked::asked_at;
 use replay_list::input::fill_bytes;
 use replay_list::input::fill_input;
 use replay_list::input::fill_words;
@@ -64,7 +65,7 @@ fn same_answer(
 // Makes the call, with as many words lent as it asks.
 fn called(asked: Asked, run: &[u8], room: &mut [u8], row: &mut [u64], words: &mut [u64]) -> u64 {
     let n = at_most(asked.words, words.len());
-    replay_calls::made(asked, run, room, row, &mut words[0..n])
+    made(asked, run, room, row, &mut words[0..n])
 }
 
 // A call in a room and a row of just the lengths that it asks.

@@ -64,22 +64,9 @@ pub fn wide(b: u8) -> u64 {
     b as u64
 }
 
-pub fn wide16(x: u16) -> u64 {
-    x as u64
-}
-
-// ---- a number's last bits
-
+// A number's last byte.
 pub fn low8(x: u64) -> u8 {
     (x % 256) as u8
-}
-
-pub fn low16(x: u64) -> u16 {
-    (x % 65536) as u16
-}
-
-pub fn low32(x: u64) -> u32 {
-    (x % 4294967296) as u32
 }
 
 // A number, or what there is where that is less.

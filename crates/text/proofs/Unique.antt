@@ -9,7 +9,7 @@ use contract.Lifetimes.{Lfts}
 use denote.Ref.{RefT, at-last}
 use Rattle.answer.specs.Rooms.{capped}
 use Rattle.text.specs.Texts.{decimal}
-use Rattle.text.specs.Puts.{Puts}
+use Rattle.text.specs.inner.Puts.{Puts}
 use Rattle.text.proofs.put_byte.Reads as put-byte
 use Rattle.text.proofs.put_text.Reads as put-text
 use Rattle.text.proofs.put_decimal.Reads as put-decimal

@@ -1,4 +1,2 @@
 pub mod Texts
-pub mod Puts
-pub mod TextLaws
-pub mod PutLaws
+pub mod inner

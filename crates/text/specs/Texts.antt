@@ -13,9 +13,9 @@ text string.[] = []
 text (string._∷_ c s) = code c ∷ text s
 
 -- pieces one behind the other
-unfoldable pub joined : List (List ℕ) → List ℕ
-joined [] = []
-joined (x ∷ xs) = x ++ joined xs
+unfoldable pub together : List (List ℕ) → List ℕ
+together [] = []
+together (x ∷ xs) = x ++ together xs
 
 -- the digits before the last one: none where there is but one
 abbrev pub digitsBefore : Bool → ℕ → (ℕ → List ℕ) → List ℕ

@@ -5,7 +5,7 @@ ghost use mathlib.Core.Path.{_≡_};
 ghost use Prim.Native.Nat.{_+_, _%_};
 ghost use Rattle.answer.specs.Rooms.{capped};
 ghost use Rattle.text.specs.Texts.{decimal};
-ghost use Rattle.text.specs.Puts.{Puts};
+ghost use Rattle.text.specs.inner.Puts.{Puts};
 
 // The mark behind a byte.
 pub(crate) fn next(at: usize) -> usize

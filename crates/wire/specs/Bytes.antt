@@ -1,5 +1,5 @@
 -- Numbers and parts of a list of bytes, what a lent room holds, and tests that pick. Everything else is said in these words.
-use Prim.Native.Nat.{ℕ, zero, suc, _+_, _*_, _-_, _/_, _%_}
+use Prim.Native.Nat.{ℕ, zero, suc, _+_, _*_, _-_, _/_, _%_, _<_}
 use mathlib.Core.Bool.{Bool, true, false}
 use mathlib.Core.List.{List, [], _∷_, _++_}
 use lib.Dec.{eqb, leb}
@@ -63,3 +63,11 @@ laid r a b = pick (leb (a + length b) (length r)) (splice r a b) r
 -- The same where a call has several of them: b at its start where all that the call lays down fits, else as it was.
 abbrev pub landed : {A : Type 0} → Bool → List A → List A → List A
 landed fits r b = pick fits (splice r 0 b) r
+
+abbrev pub Octets : List ℕ → Type 0
+Octets s = (i : ℕ) → getD s i 0 < 256
+
+-- the words of all records of a list, one record behind the other
+unfoldable pub joined : {A : Type 0} → (A → List ℕ) → List A → List ℕ
+joined words [] = []
+joined words (x ∷ xs) = words x ++ joined words xs

@@ -1,6 +1,6 @@
 //! Objects and parameters.
 use crate::loan::{ask, Loan};
-use crate::port::{self, Words, WORDS};
+use crate::port::{self, OBJECT_WORDS};
 use crate::Result;
 
 /// A parameter in an object's data.
@@ -44,8 +44,7 @@ pub struct DdmObject {
 impl DdmObject {
     /// The object at the front of `bytes`, and how many of them it takes.
     pub fn parse(bytes: &[u8]) -> Result<(Self, usize)> {
-        let loan =
-            Loan::<WORDS>::of(|loan| port::object(bytes, 0, &mut loan.room, &mut loan.words))?;
+        let loan = <Loan>::of(|loan| port::object(bytes, 0, &mut loan.room, &mut loan.words))?;
         let (code_point, data) = read(&loan.words, bytes, &loan.room);
         Ok((Self { code_point, data }, loan.words[6] as usize))
     }
@@ -61,7 +60,7 @@ impl DdmObject {
     /// assert_eq!((parameters[0].code_point, parameters[0].as_u16()), (0x1404, Some(0x2116)));
     /// ```
     pub fn parameters(&self) -> Vec<DdmParam> {
-        let found = Loan::<WORDS>::of(|loan| {
+        let found = Loan::<OBJECT_WORDS>::of(|loan| {
             let (room, row, words) = (&mut loan.room, &mut loan.row, &mut loan.words);
             port::parameters(&self.data, room, row, words)
         });
@@ -72,7 +71,7 @@ impl DdmObject {
 
     /// The first parameter with a code point.
     pub fn find_param(&self, code_point: u16) -> Option<DdmParam> {
-        let found = Loan::<WORDS>::of(|loan| {
+        let found = <Loan>::of(|loan| {
             let (room, words) = (&mut loan.room, &mut loan.words);
             port::find_param(&self.data, code_point, room, words)
         });
@@ -96,7 +95,7 @@ impl DdmObject {
     /// # }
     /// ```
     pub fn with_param(&self, code_point: u16, new: &[u8]) -> Result<Self> {
-        let loan = Loan::<WORDS>::of(|loan| {
+        let loan = <Loan>::of(|loan| {
             let (room, words) = (&mut loan.room, &mut loan.words);
             port::change_param(&self.data, code_point, new, room, words)
         })?;
@@ -111,7 +110,7 @@ impl DdmObject {
         port::object_total_length(self.data.len())
     }
 
-    fn param(&self, words: &Words, work: &[u8]) -> DdmParam {
+    fn param<const WIDTH: usize>(&self, words: &[u64; WIDTH], work: &[u8]) -> DdmParam {
         let (code_point, data) = read(words, &self.data, work);
         DdmParam { code_point, data }
     }
@@ -119,7 +118,7 @@ impl DdmObject {
 
 /// All objects of `bytes`, one behind the other; 1 to 3 last bytes are ignored.
 pub fn parse_ddm_objects(bytes: &[u8]) -> Result<Vec<DdmObject>> {
-    let loan = Loan::<WORDS>::of(|loan| {
+    let loan = Loan::<OBJECT_WORDS>::of(|loan| {
         let (room, row, words) = (&mut loan.room, &mut loan.row, &mut loan.words);
         port::objects(bytes, room, row, words)
     })?;
@@ -130,9 +129,10 @@ pub fn parse_ddm_objects(bytes: &[u8]) -> Result<Vec<DdmObject>> {
     Ok(loan.records().map(object).collect())
 }
 
-/// Code point and data of an object's or a parameter's words: the data are a part of the run or of the work area.
-fn read(words: &Words, run: &[u8], work: &[u8]) -> (u16, Vec<u8>) {
-    let [_, _, code_point, in_work, at, len, ..] = *words;
+/// Code point and data of an object's or a parameter's words, an answer's or a record's: the data are a part of the run or of the work
+/// area.
+fn read<const WIDTH: usize>(words: &[u64; WIDTH], run: &[u8], work: &[u8]) -> (u16, Vec<u8>) {
+    let [code_point, in_work, at, len] = [words[2], words[3], words[4], words[5]];
     let from = if in_work == 1 { work } else { run };
     let data = &from[at as usize..][..len as usize];
     (code_point as u16, data.to_vec())

@@ -1,6 +1,6 @@
 //! Changing one parameter of a request already built: added.
 use crate::loan::Loan;
-use crate::port::{self, WORDS};
+use crate::port;
 use crate::Result;
 
 /// A frame with new bytes in the first parameter of a code point, the frame being one with one object. Its format byte, whatever
@@ -26,7 +26,7 @@ use crate::Result;
 /// # }
 /// ```
 pub fn change_request(frame: &[u8], code_point: u16, new: &[u8]) -> Result<Vec<u8>> {
-    let loan = Loan::<WORDS>::of(|loan| {
+    let loan = <Loan>::of(|loan| {
         let (room, words) = (&mut loan.room, &mut loan.words);
         port::change_request(frame, code_point, new, room, words)
     })?;

@@ -16,7 +16,7 @@ pub enum Rules {
 }
 
 impl Rules {
-    /// Its number in the archives' functions.
+    /// Its number in the archive's functions.
     pub(super) fn number(self) -> u8 {
         match self {
             Rules::Reader => 0,

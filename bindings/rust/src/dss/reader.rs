@@ -2,7 +2,7 @@
 use super::{DssHeader, FrameMeasure, Rules};
 use crate::error::Refusal;
 use crate::loan::{ask, Loan};
-use crate::port::{self, Record, Words, RECORD_WORDS, WORDS};
+use crate::port::{self, Record, Words, RECORD_WORDS};
 use crate::{ProtoError, Result};
 use std::fmt::{self, Debug, Formatter};
 use std::ops::Range;
@@ -48,11 +48,11 @@ impl DssFrame {
 
     /// Of a record in a row, its payload being a part of the room.
     pub(super) fn of_record(record: &Record, room: &[u8]) -> Result<Self> {
-        let (at, len) = (record[1] as usize, record[5] as usize);
+        let [_, at, .., len, _, _, first, end] = record.map(|word| word as usize);
         Ok(Self {
             header: DssHeader::of_frame(record)?,
             payload: room[at..at + len].to_vec(),
-            span: record[8] as usize..record[9] as usize,
+            span: first..end,
         })
     }
 }
@@ -146,7 +146,7 @@ impl DssReader {
 
     /// The same, and of how many segments it is: added.
     pub fn next_frame_counted(&mut self) -> Result<Option<(DssFrame, usize)>> {
-        let read = Loan::<WORDS>::of(|loan| {
+        let read = <Loan>::of(|loan| {
             let (room, words) = (&mut loan.room, &mut loan.words);
             port::next_frame(&self.buffer, self.position, room, words)
         });

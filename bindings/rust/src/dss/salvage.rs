@@ -98,10 +98,9 @@ impl Entry {
 
     fn of(record: &Record, room: &[u8]) -> Result<Self> {
         if record[0] != 0 {
-            let [number, place, a, b, c, d, e, f, ..] = *record;
-            let refusal = Refusal([number, place, a, b, c, d, e, f]);
-            let (place, error) = (refusal.place(), refusal.error());
-            let end = record[9] as usize;
+            let [words @ .., _, end] = *record;
+            let refusal = Refusal(words);
+            let (place, end, error) = (refusal.place(), end as usize, refusal.error());
             return Ok(Entry::Refused { place, end, error });
         }
         Ok(Entry::Frame {

@@ -1,5 +1,5 @@
 //! The builder.
-use crate::answers::{done, expected, refused, Answer};
+use crate::answers::{done, expected, refused, Answer, ANSWER_WORDS};
 use crate::ddm::building::{every_call, laid, Call};
 use crate::ddm::case::Held;
 use crate::ddm::rust::text::DdmBuilder;
@@ -20,7 +20,7 @@ pub fn building(list: &mut List) {
         for room in [3, 4, 7, 8] {
             let room = room + len;
             for fill in [len, len.saturating_sub(1), len + 1] {
-                build(list, fill, &data, room, 8);
+                build(list, fill, &data, room, ANSWER_WORDS);
             }
         }
     }

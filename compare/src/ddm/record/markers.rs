@@ -1,6 +1,6 @@
 //! Continuation markers.
 use super::{found, step, whole};
-use crate::answers::{done, expected, refused};
+use crate::answers::{done, expected, refused, ANSWER_WORDS};
 use crate::ddm::lengths::headed;
 use crate::ddm::markers::KINDS;
 use crate::ddm::objects::object;
@@ -43,8 +43,8 @@ fn marked(list: &mut List, tally: &mut Tally, data: &[u8], turn: usize) {
     let need = kept.len();
     for room in [need, [need.saturating_sub(1), need + 4][turn % 2]] {
         let answer = match room < need {
-            true => expected(refused(9, 0, &[need as u64, 0]), 8),
-            false => expected(done(&[need as u64]), 8).laying(&kept),
+            true => expected(refused(9, 0, &[need as u64, 0]), ANSWER_WORDS),
+            false => expected(done(&[need as u64]), ANSWER_WORDS).laying(&kept),
         };
         list.answer(Asked::new(81, &[], data).room(room), 0, &answer);
     }
@@ -58,7 +58,7 @@ fn marked(list: &mut List, tally: &mut Tally, data: &[u8], turn: usize) {
         _ => {
             let run = [&[0, 6, 0x24, 0x12, 0xC1, 0xC2], &run[..]].concat();
             whole(list, tally, &run, turn);
-            step(list, tally, &run, 6, 8);
+            step(list, tally, &run, 6, ANSWER_WORDS);
         }
     }
 }

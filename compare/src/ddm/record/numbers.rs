@@ -1,5 +1,5 @@
 //! Numbers read from data, and what objects take.
-use crate::answers::{done, expected, refused};
+use crate::answers::{done, expected, refused, ANSWER_WORDS};
 use crate::ddm::rust::text;
 use crate::record::{Asked, List, FEW_WORDS};
 use db2_proto::ddm::DdmParam;
@@ -19,9 +19,9 @@ pub fn numbers(list: &mut List) {
     for number in edges {
         let bytes = [&number.to_be_bytes()[..], &[0x5A]].concat();
         for len in 0..=bytes.len() {
-            read(list, &bytes[..len], 8);
+            read(list, &bytes[..len], ANSWER_WORDS);
         }
-        read(list, &bytes[2..], 8);
+        read(list, &bytes[2..], ANSWER_WORDS);
     }
     for words in FEW_WORDS {
         read(list, &[0x80, 1, 2], words);

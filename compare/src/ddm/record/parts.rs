@@ -3,6 +3,7 @@ use crate::answers::{done, refused, Words};
 use crate::ddm::objects::Found;
 use crate::ddm::params::{self, parameters};
 use crate::record::{sum, Asked, List, BYTE};
+use crate::rows::OBJECT_WORDS;
 use crate::Tally;
 
 /// The data of an object at a place, 176: after the call that fills the work area, what that says with the length of the part in
@@ -62,7 +63,7 @@ pub fn walk(list: &mut List, tally: &mut Tally, data: &[u8], from: usize, turn: 
     words[7] = count as u64;
     let lent = match turn % 4 {
         0 => 0,
-        1 => row.len().saturating_sub(8),
+        1 => row.len().saturating_sub(OBJECT_WORDS),
         2 => row.len() + 9,
         _ => row.len(),
     };

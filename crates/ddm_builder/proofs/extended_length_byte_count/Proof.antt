@@ -1,6 +1,6 @@
 -- `ddm_builder::extended_length_byte_count` meets its contract: the law of each number of length bytes.
 use mathlib.Core.Path.{sym}
-use Rattle.ddm_builder.specs.Forms.{inline-bytes, four-bytes, six-bytes, eight-bytes}
+use Rattle.ddm_builder.proofs.BuiltForms.{inline-bytes, four-bytes, six-bytes, eight-bytes}
 use Rattle.ddm_builder.proofs.extended_length_byte_count.Statement.{statement}
 use Rattle.ddm_builder.proofs.extended_length_byte_count.Tie as tie
 

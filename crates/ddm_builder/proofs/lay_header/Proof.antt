@@ -6,17 +6,15 @@ use mathlib.Core.Path.{refl, sym, _∙_, ap}
 use mathlib.Core.List.{_++_}
 use lib.ListN.{length}
 use Rattle.wire.specs.Bytes.{two, last, laid}
-use Rattle.wire.specs.Widths.{length-last}
-use Rattle.wire.specs.Splice.{laid-kept}
-use Rattle.ddm_length.specs.Lent.{lent-next}
-use Rattle.ddm_builder.specs.Forms.{few-bytes, raw-small}
-use Rattle.ddm_builder.specs.Headers.{headerOf, length-header, header-from}
+use Rattle.wire.proofs.Widths.{length-last}
+use Rattle.wire.proofs.Splicing.{laid-kept}
+use Rattle.ddm_length.proofs.LentData.{lent-next}
+use Rattle.ddm_builder.proofs.BuiltForms.{few-bytes, raw-small}
+use Rattle.ddm_builder.specs.Headers.{headerOf}
+use Rattle.ddm_builder.proofs.HeaderLaws.{length-header, header-from}
 use borrow.Author.Needs.{needs}
 use Rattle.ddm_builder.proofs.lay_header.Statement.{statement}
 use Rattle.ddm_builder.proofs.lay_header.Tie as tie
-
-extended-length-byte-count-requires : tie.Need-extended-length-byte-count-requires
-extended-length-byte-count-requires c κs = search needs
 
 add-if1 : tie.Need-add-if1
 add-if1 c = omega (arith, c .extended-length-byte-count .ensures, few-bytes (c .before .before .args .n))
@@ -28,36 +26,6 @@ returns c =
 
 raw-length-requires : tie.Need-raw-length-requires
 raw-length-requires c κs = rw (c .before .before .extended-length-byte-count .ensures) (raw-small (c .before .before .before .before .args .n))
-
-put-u16-requires : tie.Need-put-u16-requires
-put-u16-requires c κs = search needs
-
-sub-put-u16 : tie.Need-sub-put-u16
-sub-put-u16 c = search needs
-
-part-put-u16-start : tie.Need-part-put-u16-start
-part-put-u16-start c = search needs
-
-part-put-u16-end : tie.Need-part-put-u16-end
-part-put-u16-end c = search needs
-
-put-u16-requires-2 : tie.Need-put-u16-requires-2
-put-u16-requires-2 c κs = search needs
-
-sub-lay-number : tie.Need-sub-lay-number
-sub-lay-number c = search needs
-
-part-lay-number-start : tie.Need-part-lay-number-start
-part-lay-number-start c = search needs
-
-part-lay-number-end : tie.Need-part-lay-number-end
-part-lay-number-end c = search needs
-
-lay-number-requires : tie.Need-lay-number-requires
-lay-number-requires c κs = search needs
-
-same-length : tie.Need-same-length
-same-length c = search needs
 
 returns-2 : tie.Need-returns-2
 returns-2 c =
@@ -75,19 +43,6 @@ returns-2 c =
 pub lay-header-spec : {M : Type 1} → statement M
 lay-header-spec =
     tie.close
-    (tie.spec
-    extended-length-byte-count-requires
-    add-if1
-    returns
-    raw-length-requires
-    put-u16-requires
-    sub-put-u16
-    part-put-u16-start
-    part-put-u16-end
-    put-u16-requires-2
-    sub-lay-number
-    part-lay-number-start
-    part-lay-number-end
-    lay-number-requires
-    same-length
-    returns-2)
+    (tie.spec (λ c κs. search needs) add-if1 returns raw-length-requires (λ c κs. search needs) (λ c. search needs) (λ c. search needs)
+    (λ c. search needs) (λ c κs. search needs) (λ c. search needs) (λ c. search needs) (λ c. search needs) (λ c κs. search needs)
+    (λ c. search needs) returns-2)

@@ -3,14 +3,14 @@
 use native.Mathlib.Omega.{arith}
 use mathlib.Core.Path.{sym}
 use Rattle.wire.specs.Bytes.{last}
-use Rattle.wire.specs.Widths.{length-last}
-use Rattle.wire.specs.Splice.{laid-kept}
-use Rattle.ddm_builder.specs.Numbers.{Laying, laying-start, laying-length, laying-step, laying-end}
+use Rattle.wire.proofs.Widths.{length-last}
+use Rattle.wire.proofs.Splicing.{laid-kept}
+use Rattle.ddm_builder.proofs.NumberBytes.{LayingNumber, laying-start, laying-length, laying-step, laying-end}
 use Rattle.ddm_builder.proofs.lay_number.Statement.{statement}
 use Rattle.ddm_builder.proofs.lay_number.Tie as tie
 
 abbrev Inv-loop : tie.InvT-loop
-Inv-loop room₀ width n left₀ i₀ room left i = Laying room₀ width n room left i
+Inv-loop room₀ width n left₀ i₀ room left i = LayingNumber room₀ width n room left i
 
 abbrev μ-loop : tie.MeasureT-loop
 μ-loop room₀ width n left₀ i₀ room left i = i

@@ -2,14 +2,11 @@
 use native.Mathlib.Omega.{arith}
 use mathlib.Core.Path.{_∙_}
 use lib.ListN.{length}
-use Rattle.ddm_builder.specs.Forms.{few-bytes, length-built}
-use Rattle.ddm_builder.specs.Adding.{lays-enough, lays-refused}
+use Rattle.ddm_builder.proofs.BuiltForms.{few-bytes, length-built}
+use Rattle.ddm_builder.proofs.AddingLaws.{lays-enough, lays-refused}
 use borrow.Author.Needs.{needs}
 use Rattle.ddm_builder.proofs.lay_object_or_refuse.Statement.{statement}
 use Rattle.ddm_builder.proofs.lay_object_or_refuse.Tie as tie
-
-serialized-header-len-requires : tie.Need-serialized-header-len-requires
-serialized-header-len-requires c κs = search needs
 
 add-need : tie.Need-add-need
 add-need c =
@@ -17,16 +14,10 @@ add-need c =
 
 returns : tie.Need-returns
 returns c =
-    let s = c .before .before .before .before .args in
-    let n = c .before .serialized-header-len in
-    lays-refused (s .place) _ (s .room .now) _ (length-built (s .cp) (s .«data» .now) ∙ omega (arith, n .ensures)) (c .if1 .taken)
-    (omega (arith, n .ensures, few-bytes (length (s .«data» .now)), c .before .before .before .before .good))
-
-lay-object-requires : tie.Need-lay-object-requires
-lay-object-requires c κs = search needs
-
-same-length : tie.Need-same-length
-same-length c = search needs
+    let t = c .before in
+    let s = t .before .before .before .before .args in
+    let n = t .before .serialized-header-len in
+    rw (c .no-room .ensures) (lays-refused (s .place) _ (s .room .now) _ (length-built (s .cp) (s .«data» .now) ∙ omega (arith, n .ensures)) (t .if1 .taken))
 
 returns-2 : tie.Need-returns-2
 returns-2 c =
@@ -37,10 +28,4 @@ returns-2 c =
 pub lay-object-or-refuse-spec : {M : Type 1} → statement M
 lay-object-or-refuse-spec =
     tie.close
-    (tie.spec
-    serialized-header-len-requires
-    add-need
-    returns
-    lay-object-requires
-    same-length
-    returns-2)
+    (tie.spec (λ c κs. search needs) add-need (λ c κs. search needs) returns (λ c κs. search needs) (λ c. search needs) returns-2)

@@ -1,7 +1,7 @@
 -- `ddm_builder::raw_length` meets its contract: with no length bytes, and with some.
 use native.Mathlib.Omega.{arith}
 use mathlib.Core.Path.{sym}
-use Rattle.ddm_builder.specs.Forms.{raw-inline, raw-wide}
+use Rattle.ddm_builder.proofs.BuiltForms.{raw-inline, raw-wide}
 use Rattle.ddm_builder.proofs.raw_length.Statement.{statement}
 use Rattle.ddm_builder.proofs.raw_length.Tie as tie
 

@@ -1,9 +1,9 @@
 -- `ddm_change::change_param` meets its contract: it goes by what the search says.
 use native.Mathlib.Omega.{arith}
 use mathlib.Core.Path.{_≡_, sym, _∙_, ap}
-use Rattle.ddm_change.specs.Searching.{searched}
-use Rattle.ddm_change.specs.SearchLaws.{change-sound, change-fault, found-within}
-use Rattle.ddm_change.specs.ChangeLaws.{plain-carried, plain-sound, changes-laid, lacks-laid, faulty-laid}
+use Rattle.ddm_change.specs.inner.Searching.{searched}
+use Rattle.ddm_change.proofs.SearchLaws.{change-sound, change-fault, found-within}
+use Rattle.ddm_change.proofs.ChangeLaws.{plain-carried, plain-sound, changes-laid, lacks-laid, faulty-laid}
 use Rattle.ddm_change.specs.declared.Searched.{Searched}
 use Rattle.ddm_change.specs.declared.Searched.the-variants.{Sound}
 use Rattle.ddm_change.specs.declared.Spot.the-variants.{At}
@@ -29,25 +29,10 @@ module _ (c : tie.After-spot2) where
 search-requires : tie.Need-search-requires
 search-requires c κs = (plain-sound _, omega arith)
 
-enum-known-spot : tie.Need-enum-known-spot
-enum-known-spot c = search needs
-
-enum-known-spot-2 : tie.Need-enum-known-spot-2
-enum-known-spot-2 c = search needs
-
 rewrite-requires : tie.Need-rewrite-requires
 rewrite-requires c κs =
     let w = found-within _ _ _ _ (found (c .before .before)) in
     (omega (arith, w), w .1)
-
-enum-told : tie.Need-enum-told
-enum-told c = search needs
-
-enum-known-place : tie.Need-enum-known-place
-enum-known-place c = search needs
-
-same-length : tie.Need-same-length
-same-length c = search needs
 
 returns : tie.Need-returns
 returns c =
@@ -68,14 +53,5 @@ returns-3 c =
 pub change-param-spec : {M : Type 1} → statement M
 change-param-spec =
     tie.close
-    (tie.spec
-    search-requires
-    enum-known-spot
-    enum-known-spot-2
-    rewrite-requires
-    enum-told
-    enum-known-place
-    same-length
-    returns
-    returns-2
-    returns-3)
+    (tie.spec search-requires (λ c. search needs) (λ c. search needs) rewrite-requires (λ c. search needs) (λ c. search needs)
+    (λ c. search needs) returns returns-2 returns-3)

@@ -7,9 +7,9 @@ use lib.ListN.{length}
 use Rattle.answer.specs.Rooms.{capped}
 use Rattle.answer.specs.declared.Laid.the-variants.{Bytes}
 use Rattle.ddm_builder.specs.Built.{builtSize}
-use Rattle.ddm_change.specs.Searching.{searched}
-use Rattle.ddm_change.specs.SearchLaws.{needed-sound, needed-fault, found-within}
-use Rattle.ddm_change.specs.ChangeLaws.{plain-carried, plain-sound}
+use Rattle.ddm_change.specs.inner.Searching.{searched}
+use Rattle.ddm_change.proofs.SearchLaws.{needed-sound, needed-fault, found-within}
+use Rattle.ddm_change.proofs.ChangeLaws.{plain-carried, plain-sound}
 use Rattle.ddm_change.specs.declared.Searched.{Searched}
 use Rattle.ddm_change.specs.declared.Searched.the-variants.{Sound}
 use Rattle.ddm_change.specs.declared.Spot.the-variants.{At}
@@ -47,26 +47,11 @@ module _ (c : tie.After-known-told2) where
 search-requires : tie.Need-search-requires
 search-requires c κs = (plain-sound _, omega arith)
 
-enum-known-spot : tie.Need-enum-known-spot
-enum-known-spot c = search needs
-
-enum-known-spot-2 : tie.Need-enum-known-spot-2
-enum-known-spot-2 c = search needs
-
 sub-changed-len : tie.Need-sub-changed-len
 sub-changed-len c = omega (arith, there c)
 
 add-changed-len : tie.Need-add-changed-len
 add-changed-len c = omega (arith, there c, start (after c) .good)
-
-changed-len-requires : tie.Need-changed-len-requires
-changed-len-requires c κs = search needs
-
-enum-told : tie.Need-enum-told
-enum-told c = search needs
-
-enum-known-place : tie.Need-enum-known-place
-enum-known-place c = search needs
 
 returns : tie.Need-returns
 returns c =
@@ -89,15 +74,5 @@ returns-3 c =
 pub change-param-len-spec : {M : Type 1} → statement M
 change-param-len-spec =
     tie.close
-    (tie.spec
-    search-requires
-    enum-known-spot
-    enum-known-spot-2
-    sub-changed-len
-    add-changed-len
-    changed-len-requires
-    enum-told
-    enum-known-place
-    returns
-    returns-2
-    returns-3)
+    (tie.spec search-requires (λ c. search needs) (λ c. search needs) sub-changed-len add-changed-len (λ c κs. search needs)
+    (λ c. search needs) (λ c. search needs) returns returns-2 returns-3)

@@ -5,15 +5,15 @@ use mathlib.Core.Path.{_≡_, refl, sym, _∙_, ap, subst}
 use mathlib.Core.List.{List}
 use lib.ListN.{length}
 use Rattle.wire.specs.Bytes.{splice, laid}
-use Rattle.wire.specs.Splice.{laid-fits}
+use Rattle.wire.proofs.Splicing.{laid-fits}
 use Rattle.answer.specs.Rooms.{capped}
 use Rattle.dss_frame.specs.Written.{frameSize}
 use Rattle.ddm_builder.specs.Built.{builtSize}
 use Rattle.ddm_change.specs.Request.{reframed}
-use Rattle.ddm_change.specs.ChangeLaws.{capped-exact, capped-fits, lays-none, lays-some}
-use Rattle.ddm_change.specs.Reframing.{reframed-length}
-use Rattle.ddm_change.specs.Planning.{payloadAfter, dataSize, Laying, Plans}
-use Rattle.ddm_change.specs.Laid.{payload-total, payload-length, capped-frame, request-laid, request-refuses}
+use Rattle.ddm_change.proofs.ChangeLaws.{capped-exact, capped-fits, lays-none, lays-some}
+use Rattle.ddm_change.proofs.Reframing.{reframed-length}
+use Rattle.ddm_change.specs.inner.Planning.{payloadAfter, dataSize, LayingRequest, Plans}
+use Rattle.ddm_change.proofs.LaidOut.{payload-total, payload-length, capped-frame, request-laid, request-refuses}
 use Rattle.ddm_change.specs.declared.Plan.{Plan}
 use borrow.Author.Needs.{needs}
 use Rattle.ddm_change.proofs.change_request.Statement.{statement}
@@ -46,7 +46,7 @@ module _ (c : tie.After-known-told) where
   after = reframed frame (payloadAfter frame p cp new)
 
   -- how it is to be laid down
-  planned : Laying frame cp (length new) p
+  planned : LayingRequest frame cp (length new) p
   planned = subst (Plans frame cp (length new)) (c .before .plan2 .given .1) (c .before .before .before .plan .ensures)
 
   after-length : (n : ℕ) → length (payloadAfter frame p cp new) ≡ n → length after ≡ frameSize n
@@ -58,30 +58,19 @@ roomy c = capped-fits _ _ (omega (arith, c .before .frame-size .ensures, c .if1 
 plan-requires : tie.Need-plan-requires
 plan-requires c κs = omega (arith, c .before .before .before .good)
 
-enum-known-plan : tie.Need-enum-known-plan
-enum-known-plan c = search needs
-
-frame-size-requires : tie.Need-frame-size-requires
-frame-size-requires c κs = search needs
-
 returns : tie.Need-returns
 returns c =
-    let k = c .before .before in
+    let t = c .before in
+    let k = t .before .before in
     let l = planned k in
     let n = builtSize (dataSize (p k) (length (new k))) in
-    let need = c .before .frame-size .ensures ∙ ap (λ (m : ℕ). capped (frameSize m)) (l .size) ∙ capped-frame n in
-    rw need
+    let need = t .before .frame-size .ensures ∙ ap (λ (m : ℕ). capped (frameSize m)) (l .size) ∙ capped-frame n in
+    rw (c .no-room .ensures, need)
     (request-laid (frame k) (cp k) (new k) (room k) (after k) _ _ (l .comes (new k) refl)
-    (lays-none _ (room k) (frameSize n) (after-length k n (payload-total (frame k) (p k) (cp k) (new k) l)) (omega (arith, need, c .if1 .taken))))
+    (lays-none _ (room k) (frameSize n) (after-length k n (payload-total (frame k) (p k) (cp k) (new k) l)) (omega (arith, need, t .if1 .taken))))
 
 lay-requires : tie.Need-lay-requires
 lay-requires c κs = (planned (c .before .before .before), roomy (c .before))
-
-enum-known-r : tie.Need-enum-known-r
-enum-known-r c = search needs
-
-same-length : tie.Need-same-length
-same-length c = search needs
 
 returns-2 : tie.Need-returns-2
 returns-2 c =
@@ -103,13 +92,5 @@ returns-3 c =
 pub change-request-spec : {M : Type 1} → statement M
 change-request-spec =
     tie.close
-    (tie.spec
-    plan-requires
-    enum-known-plan
-    frame-size-requires
-    returns
-    lay-requires
-    enum-known-r
-    same-length
-    returns-2
-    returns-3)
+    (tie.spec plan-requires (λ c. search needs) (λ c κs. search needs) (λ c κs. search needs) returns lay-requires (λ c. search needs)
+    (λ c. search needs) returns-2 returns-3)

@@ -6,11 +6,11 @@ use mathlib.Core.List.{List, _++_, append-assoc}
 use lib.ListN.{length, take, drop, length-append}
 use lib.Seq.{length-take-le}
 use Rattle.wire.specs.Bytes.{laid}
-use Rattle.wire.specs.Lent.{tail, tail-drop, tail-length}
-use Rattle.ddm_length.specs.Lent.{laid-next, laid-length, lent-next}
+use Rattle.wire.proofs.LentParts.{tail, tail-drop, tail-length}
+use Rattle.ddm_length.proofs.LentData.{laid-next, laid-length, lent-next}
 use Rattle.ddm_builder.specs.Built.{lengthBytes, built, builtSize}
-use Rattle.ddm_builder.specs.Forms.{length-built}
-use Rattle.ddm_change.specs.ChangeLaws.{capped-exact, capped-fits, built-size, rewritten-length, lays-none, lays-some}
+use Rattle.ddm_builder.proofs.BuiltForms.{length-built}
+use Rattle.ddm_change.proofs.ChangeLaws.{capped-exact, capped-fits, built-size, rewritten-length, lays-none, lays-some}
 use borrow.Author.Needs.{needs}
 use Rattle.ddm_change.proofs.rewrite.Statement.{statement}
 use Rattle.ddm_change.proofs.rewrite.Tie as tie
@@ -97,11 +97,12 @@ changed-len-requires c κs = search needs
 
 returns : tie.Need-returns
 returns c =
-    let s = c .before .before .before .before .before in
+    let t = c .before in
+    let s = t .before .before .before .before .before in
     let a = s .args in
-    rw (c .before .changed-len .ensures)
+    rw (c .no-room .ensures, t .before .changed-len .ensures)
     (lays-none _ _ _ (rewritten-length (a .«data» .now) (a .from) (a .to) (a .code-point) (a .new .now) (s .pre .0) (s .pre .1))
-    (omega (arith, c .if1 .taken, c .before .changed-len .ensures)))
+    (omega (arith, t .if1 .taken, t .before .changed-len .ensures)))
 
 slice-aggregate-lay-at : tie.Need-slice-aggregate-lay-at
 slice-aggregate-lay-at c =
@@ -164,6 +165,7 @@ rewrite-spec =
     sub-changed-len
     add-changed-len
     changed-len-requires
+    (λ c κs. search needs)
     returns
     slice-aggregate-lay-at
     lay-at-requires

@@ -7,11 +7,11 @@ use mathlib.Core.List.{List}
 use lib.ListN.{length, take, drop}
 use borrow.Author.Tests.{lt-ltb, le-ltb, lt-leb, le-leb}
 use Rattle.wire.specs.Bytes.{spelled}
-use Rattle.wire.specs.Laws.{pick-yes, pick-no}
+use Rattle.wire.proofs.WireLaws.{pick-yes, pick-no}
 use Rattle.answer.specs.declared.Refusal.the-variants.{LengthTooLarge}
 use Rattle.ddm_length.specs.declared.Marshaled.the-variants.{Takes}
 use Rattle.ddm_length.specs.Lengths.{refuse, extended}
-use Rattle.ddm_length.specs.Sums.{number-is, number-large}
+use Rattle.ddm_length.proofs.NumberSums.{number-is, number-large}
 use borrow.Author.Needs.{needs}
 use Rattle.ddm_length.proofs.extended_at.Statement.{statement}
 use Rattle.ddm_length.proofs.extended_at.Tie as tie
@@ -27,38 +27,11 @@ module _ (b : List ℕ) (place header : ℕ) (lo : 4 ≤ header) (there : header
       pick-no _ _ (le-ltb header 4 lo) ∙ pick-yes _ _ (le-leb header (length b) there)
       ∙ pick-no _ _ (le-ltb (header + spelled 0 (take (header - 4) (drop 4 b))) (2 ^ 64) h)
 
-refuse-at-requires : tie.Need-refuse-at-requires
-refuse-at-requires c κs = search needs
-
 returns : tie.Need-returns
 returns c = c .refuse-at .ensures ∙ sym (pick-yes _ _ (lt-ltb _ _ (c .before .if1 .taken)))
 
-refuse-at-requires-2 : tie.Need-refuse-at-requires-2
-refuse-at-requires-2 c κs = search needs
-
 returns-2 : tie.Need-returns-2
 returns-2 c = c .refuse-at2 .ensures ∙ sym (pick-no _ _ (le-ltb _ _ (c .before .before .if1 .left)) ∙ pick-no _ _ (lt-leb _ _ (c .before .if2 .taken)))
-
-sub-number-of : tie.Need-sub-number-of
-sub-number-of c = search needs
-
-part-number-of-start : tie.Need-part-number-of-start
-part-number-of-start c = search needs
-
-part-number-of-end : tie.Need-part-number-of-end
-part-number-of-end c = search needs
-
-number-of-requires : tie.Need-number-of-requires
-number-of-requires c κs = search needs
-
-enum-known-n : tie.Need-enum-known-n
-enum-known-n c = search needs
-
-sub-if3 : tie.Need-sub-if3
-sub-if3 c = search needs
-
-refuse-at-requires-3 : tie.Need-refuse-at-requires-3
-refuse-at-requires-3 c κs = search needs
 
 returns-3 : tie.Need-returns-3
 returns-3 c =
@@ -67,20 +40,11 @@ returns-3 c =
     c .refuse-at3 .ensures
     ∙ sym (too-large (s .bytes .now) (s .place) (s .header) (a .before .before .before .if1 .left) (a .before .before .if2 .left) (omega (arith, number-is _ _ (sym (a .number-of .ensures) ∙ c .before .before .before .n .given .1))))
 
-add-t15 : tie.Need-add-t15
-add-t15 c = search needs
-
 returns-4 : tie.Need-returns-4
 returns-4 c =
     let a = c .before .before .before .before in
     let s = a .before .before .before .before .before .args in
     sym (within (s .bytes .now) (s .place) (s .header) (a .before .before .before .if1 .left) (a .before .before .if2 .left) _ (number-is _ _ (sym (a .number-of .ensures) ∙ c .before .before .n .given .1)) (omega arith))
-
-enum-told : tie.Need-enum-told
-enum-told c = search needs
-
-refuse-at-requires-4 : tie.Need-refuse-at-requires-4
-refuse-at-requires-4 c κs = search needs
 
 returns-5 : tie.Need-returns-5
 returns-5 c =
@@ -92,21 +56,6 @@ returns-5 c =
 pub extended-at-spec : {M : Type 1} → statement M
 extended-at-spec =
     tie.close
-    (tie.spec
-    refuse-at-requires
-    returns
-    refuse-at-requires-2
-    returns-2
-    sub-number-of
-    part-number-of-start
-    part-number-of-end
-    number-of-requires
-    enum-known-n
-    sub-if3
-    refuse-at-requires-3
-    returns-3
-    add-t15
-    returns-4
-    enum-told
-    refuse-at-requires-4
-    returns-5)
+    (tie.spec (λ c κs. search needs) returns (λ c κs. search needs) returns-2 (λ c. search needs) (λ c. search needs) (λ c. search needs)
+    (λ c κs. search needs) (λ c. search needs) (λ c. search needs) (λ c κs. search needs) returns-3 (λ c. search needs) returns-4
+    (λ c. search needs) (λ c κs. search needs) returns-5)

@@ -4,17 +4,11 @@ use borrow.Author.Needs.{needs}
 use Rattle.ddm_length.proofs.has_markers.Statement.{statement}
 use Rattle.ddm_length.proofs.has_markers.Tie as tie
 
-add-if1 : tie.Need-add-if1
-add-if1 c = search needs
-
 returns : tie.Need-returns
 returns c = simp (le-ltb _ _ (c .if1 .taken))
-
-marker-at-requires : tie.Need-marker-at-requires
-marker-at-requires c κs = search needs
 
 returns-2 : tie.Need-returns-2
 returns-2 c = simp (lt-ltb _ _ (c .before .if1 .left)) (c .marker-at .ensures)
 
 pub has-markers-spec : {M : Type 1} → statement M
-has-markers-spec = tie.close (tie.spec add-if1 returns marker-at-requires returns-2)
+has-markers-spec = tie.close (tie.spec (λ c. search needs) returns (λ c κs. search needs) returns-2)

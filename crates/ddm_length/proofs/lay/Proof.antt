@@ -1,17 +1,11 @@
 -- `ddm_length::lay` meets its contract: bytes that fit are copied, and others leave the room as it is.
 use native.Mathlib.Omega.{arith}
 use mathlib.Core.Path.{sym, _∙_}
-use Rattle.wire.specs.Splice.{laid-kept}
-use Rattle.ddm_length.specs.Lent.{copied-laid}
+use Rattle.wire.proofs.Splicing.{laid-kept}
+use Rattle.ddm_length.proofs.LentData.{copied-laid}
 use borrow.Author.Needs.{needs}
 use Rattle.ddm_length.proofs.lay.Statement.{statement}
 use Rattle.ddm_length.proofs.lay.Tie as tie
-
-copy-requires : tie.Need-copy-requires
-copy-requires c κs = search needs
-
-same-length : tie.Need-same-length
-same-length c = search needs
 
 returns : tie.Need-returns
 returns c =
@@ -21,4 +15,4 @@ returns-2 : tie.Need-returns-2
 returns-2 c = let s = c .before .before .before .args in sym (laid-kept (s .room .now) 0 (s .«data» .now) (omega arith))
 
 pub lay-spec : {M : Type 1} → statement M
-lay-spec = tie.close (tie.spec copy-requires same-length returns returns-2)
+lay-spec = tie.close (tie.spec (λ c κs. search needs) (λ c. search needs) returns returns-2)

@@ -6,9 +6,10 @@ use mathlib.Core.Path.{_≡_, sym, _∙_, ap}
 use lib.ListN.{length, take}
 use lib.Seq.{length-take-le}
 use Rattle.wire.specs.Bytes.{splice}
-use Rattle.wire.specs.Splice.{splice-length}
+use Rattle.wire.proofs.Splicing.{splice-length}
 use Rattle.ddm_length.specs.Markers.{unmarked}
-use Rattle.ddm_length.specs.Pieces.{Keeping, keeping-start, keeping-step, keeping-end, laid-more, first-length, first-holds, all-laid}
+use Rattle.ddm_length.specs.inner.Keeping.{Keeping}
+use Rattle.ddm_length.proofs.MarkerPieces.{keeping-start, keeping-step, keeping-end, laid-more, first-length, first-holds, all-laid}
 use borrow.Author.Needs.{needs}
 use Rattle.ddm_length.proofs.lay_kept.Statement.{statement}
 use Rattle.ddm_length.proofs.lay_kept.Tie as tie

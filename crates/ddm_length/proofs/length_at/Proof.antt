@@ -1,38 +1,26 @@
 -- `ddm_length::length_at` meets its contract: each return rewrites with the tests that led there.
 use mathlib.Core.Path.{sym, _∙_}
 use borrow.Author.Tests.{lt-ltb, le-ltb, eq-eqb, ne-eqb}
-use Rattle.wire.specs.Laws.{pick-yes, pick-no}
+use Rattle.wire.proofs.WireLaws.{pick-yes, pick-no}
 use Rattle.ddm_length.specs.Lengths.{marshaled}
 use borrow.Author.Needs.{needs}
 use Rattle.ddm_length.proofs.length_at.Statement.{statement}
 use Rattle.ddm_length.proofs.length_at.Tie as tie
 
-refuse-at-requires : tie.Need-refuse-at-requires
-refuse-at-requires c κs = search needs
-
 returns : tie.Need-returns
 unfolding marshaled
 returns c = c .refuse-at .ensures ∙ sym (pick-yes _ _ (lt-ltb _ _ (c .before .if1 .taken)))
-
-u16-at-requires : tie.Need-u16-at-requires
-u16-at-requires c κs = search needs
 
 returns-2 : tie.Need-returns-2
 unfolding marshaled
 returns-2 c =
     rw (← c .before .u16-at .ensures) (sym (pick-no _ _ (le-ltb _ _ (c .before .before .if1 .left)) ∙ pick-yes _ _ (eq-eqb _ _ (c .if2 .taken))))
 
-cast-t9 : tie.Need-cast-t9
-cast-t9 c = search needs
-
 returns-3 : tie.Need-returns-3
 unfolding marshaled
 returns-3 c =
     rw (← c .before .before .u16-at .ensures)
     (sym (pick-no _ _ (le-ltb _ _ (c .before .before .before .if1 .left)) ∙ pick-no _ _ (ne-eqb _ _ (c .before .if2 .left)) ∙ pick-yes _ _ (lt-ltb _ _ (c .if3 .taken))))
-
-extended-at-requires : tie.Need-extended-at-requires
-extended-at-requires c κs = search needs
 
 returns-4 : tie.Need-returns-4
 unfolding marshaled
@@ -43,12 +31,5 @@ returns-4 c =
 pub length-at-spec : {M : Type 1} → statement M
 length-at-spec =
     tie.close
-    (tie.spec
-    refuse-at-requires
-    returns
-    u16-at-requires
-    returns-2
-    cast-t9
-    returns-3
-    extended-at-requires
+    (tie.spec (λ c κs. search needs) returns (λ c κs. search needs) returns-2 (λ c. search needs) returns-3 (λ c κs. search needs)
     returns-4)

@@ -2,13 +2,10 @@
 use mathlib.Core.Path.{sym, _∙_, ap}
 use borrow.Author.Tests.{eq-eqb, ne-eqb}
 use Rattle.wire.specs.Bytes.{marker}
-use Rattle.ddm_length.specs.Pieces.{be16-drop}
+use Rattle.ddm_length.proofs.MarkerPieces.{be16-drop}
 use borrow.Author.Needs.{needs}
 use Rattle.ddm_length.proofs.marker_at.Statement.{statement}
 use Rattle.ddm_length.proofs.marker_at.Tie as tie
-
-u16-at-requires : tie.Need-u16-at-requires
-u16-at-requires c κs = search needs
 
 returns : tie.Need-returns
 returns c =
@@ -21,4 +18,4 @@ returns-2 c =
     sym (ap marker (be16-drop (s .«data» .now) (s .at) ∙ sym (c .before .u16-at .ensures)) ∙ simp (ne-eqb _ _ (c .if1 .left)))
 
 pub marker-at-spec : {M : Type 1} → statement M
-marker-at-spec = tie.close (tie.spec u16-at-requires returns returns-2)
+marker-at-spec = tie.close (tie.spec (λ c κs. search needs) returns returns-2)

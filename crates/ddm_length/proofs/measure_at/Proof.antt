@@ -5,34 +5,22 @@ use native.Mathlib.Omega.{arith}
 use mathlib.Core.Path.{sym, _∙_, ap}
 use mathlib.Core.List.{List}
 use borrow.Author.Tests.{lt-ltb, le-ltb, lt-leb, le-leb}
-use Rattle.wire.specs.Laws.{pick-yes, pick-no}
+use Rattle.wire.proofs.WireLaws.{pick-yes, pick-no}
 use Rattle.ddm_length.specs.Lengths.{measured, fitting}
-use Rattle.ddm_length.specs.Taken.{Says, says-inline, says-all, says-wide, marshaled-says}
+use Rattle.ddm_length.proofs.TakenLengths.{LengthSays, says-inline, says-all, says-wide, marshaled-says}
 use borrow.Author.Needs.{needs}
 use Rattle.ddm_length.proofs.measure_at.Statement.{statement}
 use Rattle.ddm_length.proofs.measure_at.Tie as tie
 
-small : {b : List ℕ} {t h : ℕ} → Says b t h → t < h → t < 65536
+small : {b : List ℕ} {t h : ℕ} → LengthSays b t h → t < h → t < 65536
 small (says-inline four et eh hi) l = omega arith
 small (says-all four raw et eh) l = absurd (omega arith)
 small (says-wide raw lo there et hi) l = absurd (omega arith)
-
-length-at-requires : tie.Need-length-at-requires
-length-at-requires c κs = search needs
-
-enum-known-total : tie.Need-enum-known-total
-enum-known-total c = search needs
-
-u16-at-requires : tie.Need-u16-at-requires
-u16-at-requires c κs = search needs
 
 cast-t10 : tie.Need-cast-t10
 cast-t10 c =
     let s = c .before .before .before .before .before .before .before .args in
     record { fits = small (marshaled-says (s .bytes .now) _ _ (s .place) (sym (c .before .before .before .before .before .length-at .ensures) ∙ c .before .before .before .total .given .1)) (c .before .if1 .taken) }
-
-refuse-at-requires : tie.Need-refuse-at-requires
-refuse-at-requires c κs = search needs
 
 returns : tie.Need-returns
 unfolding measured
@@ -41,9 +29,6 @@ returns c =
     c .refuse-at .ensures
     ∙ rw (c .before .u16-at .ensures)
     (sym (ap (fitting (s .bytes .now) (s .place)) (sym (c .before .before .before .before .before .before .length-at .ensures) ∙ c .before .before .before .before .total .given .1) ∙ pick-yes _ _ (lt-ltb _ _ (c .before .before .if1 .taken))))
-
-refuse-at-requires-2 : tie.Need-refuse-at-requires-2
-refuse-at-requires-2 c κs = search needs
 
 returns-2 : tie.Need-returns-2
 unfolding measured
@@ -60,9 +45,6 @@ returns-3 c =
     sym (ap (fitting (s .bytes .now) (s .place)) (sym (c .before .before .before .before .before .length-at .ensures) ∙ c .before .before .before .total .given .1)
     ∙ pick-no _ _ (le-ltb _ _ (c .before .if1 .left)) ∙ pick-yes _ _ (le-leb _ _ (c .if2 .left)))
 
-enum-known-r : tie.Need-enum-known-r
-enum-known-r c = search needs
-
 returns-4 : tie.Need-returns-4
 unfolding measured
 returns-4 c =
@@ -72,15 +54,5 @@ returns-4 c =
 pub measure-at-spec : {M : Type 1} → statement M
 measure-at-spec =
     tie.close
-    (tie.spec
-    length-at-requires
-    enum-known-total
-    u16-at-requires
-    cast-t10
-    refuse-at-requires
-    returns
-    refuse-at-requires-2
-    returns-2
-    returns-3
-    enum-known-r
-    returns-4)
+    (tie.spec (λ c κs. search needs) (λ c. search needs) (λ c κs. search needs) cast-t10 (λ c κs. search needs) returns
+    (λ c κs. search needs) returns-2 returns-3 (λ c. search needs) returns-4)

@@ -8,8 +8,9 @@ use lib.ListN.{length, take, getD}
 use lib.Seq.{take-all}
 use borrow.Author.Tests.{lt-ltb, le-ltb}
 use Rattle.wire.specs.Bytes.{spelled}
-use Rattle.wire.specs.Laws.{pick-yes, pick-no}
-use Rattle.ddm_length.specs.Sums.{numbered, spelled-step, spelled-front}
+use Rattle.wire.proofs.WireLaws.{pick-yes, pick-no}
+use Rattle.ddm_length.specs.inner.Numbered.{spelledNumber}
+use Rattle.ddm_length.proofs.NumberSums.{spelled-step, spelled-front}
 use Rattle.ddm_length.proofs.number_of.Statement.{statement}
 use Rattle.ddm_length.proofs.number_of.Tie as tie
 
@@ -24,7 +25,7 @@ unfolding spelled
 loop-holds c = (omega arith, refl, omega arith)
 
 returns : tie.Need-returns Inv-loop μ-loop
-unfolding numbered
+unfolding spelledNumber
 returns c =
     let l = c .before .before .loop in
     let bs = c .before .before .before .args .bytes .now in
@@ -58,7 +59,7 @@ loop-again c =
     )
 
 returns-2 : tie.Need-returns-2 Inv-loop μ-loop
-unfolding numbered
+unfolding spelledNumber
 returns-2 c =
     let l = c .before .loop in
     let bs = c .before .before .args .bytes .now in

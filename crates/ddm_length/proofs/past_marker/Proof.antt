@@ -3,14 +3,11 @@ use native.Mathlib.Omega.{arith}
 use mathlib.Core.Path.{sym, _∙_}
 use lib.ListN.{drop, length-drop}
 use lib.Seq.{drop-drop}
-use Rattle.wire.specs.Laws.{pick-yes, pick-no}
-use Rattle.ddm_length.specs.Pieces.{marker-two}
+use Rattle.wire.proofs.WireLaws.{pick-yes, pick-no}
+use Rattle.ddm_length.proofs.MarkerPieces.{marker-two}
 use borrow.Author.Needs.{needs}
 use Rattle.ddm_length.proofs.past_marker.Statement.{statement}
 use Rattle.ddm_length.proofs.past_marker.Tie as tie
-
-marker-at-requires : tie.Need-marker-at-requires
-marker-at-requires c κs = search needs
 
 add-result : tie.Need-add-result
 add-result c =
@@ -36,4 +33,4 @@ returns-2 c =
     }
 
 pub past-marker-spec : {M : Type 1} → statement M
-past-marker-spec = tie.close (tie.spec marker-at-requires add-result returns returns-2)
+past-marker-spec = tie.close (tie.spec (λ c κs. search needs) add-result returns returns-2)

@@ -3,9 +3,10 @@ use Prim.Native.Nat.{_-_}
 use native.Mathlib.Omega.{arith}
 use mathlib.Core.Path.{sym, _∙_, ap}
 use lib.ListN.{length}
-use Rattle.wire.specs.Laws.{pick-no}
+use Rattle.wire.proofs.WireLaws.{pick-no}
 use Rattle.ddm_length.specs.Markers.{unmarked}
-use Rattle.ddm_length.specs.Pieces.{Keeping, keeping-start, keeping-step, keeping-end}
+use Rattle.ddm_length.specs.inner.Keeping.{Keeping}
+use Rattle.ddm_length.proofs.MarkerPieces.{keeping-start, keeping-step, keeping-end}
 use Rattle.ddm_length.proofs.unmarked_len.Statement.{statement}
 use Rattle.ddm_length.proofs.unmarked_len.Tie as tie
 

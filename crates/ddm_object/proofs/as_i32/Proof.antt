@@ -2,27 +2,15 @@
 use native.Mathlib.Omega.{arith}
 use mathlib.Core.Path.{sym, _∙_, ap}
 use Rattle.ddm_object.specs.declared.I32Found.the-variants.{Number as I32}
-use Rattle.ddm_object.specs.Numbers.{i32-number, i32-none, signed-low, signed-high, apart-wide, apart-back}
+use Rattle.ddm_object.proofs.NumberLaws.{i32-number, i32-none, signed-low, signed-high, apart-wide, apart-back}
 use borrow.Author.Needs.{needs}
 use Rattle.ddm_object.proofs.as_i32.Statement.{statement}
 use Rattle.ddm_object.proofs.as_i32.Tie as tie
-
-as-u32-requires : tie.Need-as-u32-requires
-as-u32-requires c κs = search needs
-
-enum-known-n : tie.Need-enum-known-n
-enum-known-n c = search needs
-
-cast-t6 : tie.Need-cast-t6
-cast-t6 c = search needs
 
 returns : tie.Need-returns
 returns c =
     let d = c .before .before .before .before .before .before .args .«data» .now in
     ap I32 (signed-low _ (c .if1 .taken)) ∙ sym (i32-number d _ (sym (c .before .before .before .before .as-u32 .ensures) ∙ c .before .before .n .given .1))
-
-cast-t7 : tie.Need-cast-t7
-cast-t7 c = search needs
 
 sub-t8 : tie.Need-sub-t8
 sub-t8 c = apart-wide _ (c .if1 .left) (omega arith)
@@ -35,9 +23,6 @@ returns-2 c =
     let d = c .before .before .before .before .before .before .args .«data» .now in
     ap I32 (signed-high _ (c .if1 .left) (omega arith)) ∙ sym (i32-number d _ (sym (c .before .before .before .before .as-u32 .ensures) ∙ c .before .before .n .given .1))
 
-enum-known-r : tie.Need-enum-known-r
-enum-known-r c = search needs
-
 returns-3 : tie.Need-returns-3
 returns-3 c =
     let d = c .before .before .before .before .before .args .«data» .now in
@@ -46,14 +31,5 @@ returns-3 c =
 pub as-i32-spec : {M : Type 1} → statement M
 as-i32-spec =
     tie.close
-    (tie.spec
-    as-u32-requires
-    enum-known-n
-    cast-t6
-    returns
-    cast-t7
-    sub-t8
-    cast-t9
-    returns-2
-    enum-known-r
-    returns-3)
+    (tie.spec (λ c κs. search needs) (λ c. search needs) (λ c. search needs) returns (λ c. search needs) sub-t8 cast-t9 returns-2
+    (λ c. search needs) returns-3)

@@ -3,8 +3,8 @@ use Prim.Native.Nat.{_-_}
 use native.Mathlib.Omega.{arith}
 use mathlib.Core.Path.{sym, _∙_}
 use lib.ListN.{length}
-use Rattle.ddm_object.specs.Records.{record-of, refused-of, record-next}
-use Rattle.ddm_object.specs.Finding.{Looking, looking-start, looking-step, looking-found, looking-end}
+use Rattle.ddm_object.proofs.ObjectRecords.{record-of, refused-of, record-next}
+use Rattle.ddm_object.proofs.FindingParams.{Looking, looking-start, looking-step, looking-found, looking-end}
 use borrow.Author.Needs.{needs}
 use Rattle.ddm_object.proofs.find_place.Statement.{statement}
 use Rattle.ddm_object.proofs.find_place.Tie as tie
@@ -20,9 +20,6 @@ loop-holds c = looking-start _ _
 
 record-at-requires : tie.Need-record-at-requires Inv-loop μ-loop
 record-at-requires c κs = c .loop .inv .within
-
-enum-known-o : tie.Need-enum-known-o Inv-loop μ-loop
-enum-known-o c = search needs
 
 returns : tie.Need-returns Inv-loop μ-loop
 returns c =
@@ -41,9 +38,6 @@ loop-again c =
     let f = record-of _ _ _ (sym (c .before .before .before .before .before .before .record-at .ensures) ∙ c .before .before .before .before .o .given .1) in
     looking-step _ _ _ (c .before .before .before .before .before .before .before .loop .inv) _ f (c .before .if1 .left) (record-next _ _ _ (c .before .before .before .before .before .before .before .loop .inv .within) f .1)
 
-enum-told : tie.Need-enum-told Inv-loop μ-loop
-enum-told c = search needs
-
 returns-2 : tie.Need-returns-2 Inv-loop μ-loop
 returns-2 c =
     looking-end _ _ _ _ (c .before .before .before .loop .inv) (refused-of _ _ _ (sym (c .before .before .record-at .ensures) ∙ c .enum-told .given .1))
@@ -51,15 +45,5 @@ returns-2 c =
 pub find-place-spec : {M : Type 1} → statement M
 find-place-spec =
     tie.close
-    (tie.spec
-    Inv-loop
-    μ-loop
-    loop-holds
-    record-at-requires
-    enum-known-o
-    returns
-    add-at
-    loop-less
-    loop-again
-    enum-told
+    (tie.spec Inv-loop μ-loop loop-holds record-at-requires (λ c. search needs) returns add-at loop-less loop-again (λ c. search needs)
     returns-2)

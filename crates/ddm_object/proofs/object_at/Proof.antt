@@ -1,13 +1,16 @@
 -- `ddm_object::object_at` meets its contract: the part of the run from the place on is parsed as a whole input.
 use mathlib.Core.Path.{subst}
-use Rattle.wire.specs.Lent.{tail-drop}
-use Rattle.ddm_object.specs.Records.{GivesIn, at-place, beyond-place}
+use Rattle.wire.proofs.LentParts.{tail-drop}
+use Rattle.ddm_object.specs.inner.RecordsGiven.{GivesIn}
+use Rattle.ddm_object.proofs.ObjectRecords.{at-place, beyond-place}
 use borrow.Author.Needs.{needs}
 use Rattle.ddm_object.proofs.object_at.Statement.{statement}
 use Rattle.ddm_object.proofs.object_at.Tie as tie
 
 returns : tie.Need-returns
-returns c = let s = c .before .before .before .args in beyond-place (s .run .now) (s .at) (s .work .now) (c .if1 .taken)
+returns c =
+    let s = c .before .before .before .before .args in
+    rw (c .out-of-bounds .ensures) (beyond-place (s .run .now) (s .at) (s .work .now) (c .before .if1 .taken))
 
 sub-parse-in : tie.Need-sub-parse-in
 sub-parse-in c = search needs
@@ -34,6 +37,7 @@ pub object-at-spec : {M : Type 1} → statement M
 object-at-spec =
     tie.close
     (tie.spec
+    (λ c κs. search needs)
     returns
     sub-parse-in
     part-parse-in-start

@@ -4,9 +4,9 @@ use native.Mathlib.Omega.{arith}
 use mathlib.Core.Path.{_≡_, refl, sym, _∙_, ap}
 use mathlib.Core.List.{List, []}
 use lib.ListN.{length, take, drop}
-use Rattle.ddm_object.specs.Records.{RecordOf, record-of, refused-of}
-use Rattle.ddm_object.specs.Data.{given-run, run-room}
-use Rattle.ddm_object.specs.Parts.{data-beyond, data-refused, data-short, data-work, data-run}
+use Rattle.ddm_object.proofs.ObjectRecords.{RecordOf, record-of, refused-of}
+use Rattle.ddm_object.proofs.DataLaws.{given-run, run-room}
+use Rattle.ddm_object.proofs.PartLaws.{data-beyond, data-refused, data-short, data-work, data-run}
 use borrow.Author.Needs.{needs}
 use Rattle.ddm_object.proofs.object_data.Statement.{statement}
 use Rattle.ddm_object.proofs.object_data.Tie as tie
@@ -31,48 +31,15 @@ in-run c =
     let s = c .before .before .before .before .before .before .before .before .args in
     run-room (s .run .now) (s .at) (s .work .now) _ (given-run (s .run .now) (s .at) (length (s .work .now)) _ (c .before .before .before .before .before .if1 .left) (here (c .before .before)) (c .if2 .left)) (c .if2 .left)
 
-sub-result : tie.Need-sub-result
-sub-result c = search needs
-
-part-result-start : tie.Need-part-result-start
-part-result-start c = search needs
-
-part-result-end : tie.Need-part-result-end
-part-result-end c = search needs
-
 returns : tie.Need-returns
 returns c =
     let s = c .before .before .before .before .args in
     data-beyond (s .run) (s .at) (s .work) _ (c .before .if1 .taken) (none (s .run .now) (length (s .run .now))) refl
 
-record-at-requires : tie.Need-record-at-requires
-record-at-requires c κs = search needs
-
-enum-known-o : tie.Need-enum-known-o
-enum-known-o c = search needs
-
-sub-result-2 : tie.Need-sub-result-2
-sub-result-2 c = search needs
-
-part-result-start-2 : tie.Need-part-result-start-2
-part-result-start-2 c = search needs
-
-part-result-end-2 : tie.Need-part-result-end-2
-part-result-end-2 c = search needs
-
 returns-2 : tie.Need-returns-2
 returns-2 c =
     let s = c .before .before .before .before .before .before .before .before .before .before .args in
     data-short (s .run) (s .at) (s .work) _ _ (here (c .before .before .before .before)) (c .before .before .if2 .taken) (c .before .if3 .taken) (none (s .run .now) (s .at)) refl
-
-sub-result-3 : tie.Need-sub-result-3
-sub-result-3 c = search needs
-
-part-result-start-3 : tie.Need-part-result-start-3
-part-result-start-3 c = search needs
-
-part-result-end-3 : tie.Need-part-result-end-3
-part-result-end-3 c = search needs
 
 returns-3 : tie.Need-returns-3
 returns-3 c =
@@ -81,12 +48,6 @@ returns-3 c =
 
 add-result : tie.Need-add-result
 add-result c = omega (arith, in-run c, c .before .before .before .before .before .before .before .before .good)
-
-sub-result-4 : tie.Need-sub-result-4
-sub-result-4 c = search needs
-
-part-result-start-4 : tie.Need-part-result-start-4
-part-result-start-4 c = search needs
 
 part-result-end-4 : tie.Need-part-result-end-4
 part-result-end-4 c = in-run c
@@ -97,18 +58,6 @@ returns-4 c =
     let o = c .before .before .before .o .given .0 .0 in
     data-run (s .run) (s .at) (s .work) _ o (here (c .before .before .before)) (c .before .if2 .left) (c .before .before .before .before .before .before .if1 .left) (back (s .run .now) (o .«data_at») (o .«data_len»)) refl
 
-enum-told : tie.Need-enum-told
-enum-told c = search needs
-
-sub-result-5 : tie.Need-sub-result-5
-sub-result-5 c = search needs
-
-part-result-start-5 : tie.Need-part-result-start-5
-part-result-start-5 c = search needs
-
-part-result-end-5 : tie.Need-part-result-end-5
-part-result-end-5 c = search needs
-
 returns-5 : tie.Need-returns-5
 returns-5 c =
     let s = c .before .before .before .before .before .before .before .args in
@@ -117,28 +66,7 @@ returns-5 c =
 pub object-data-spec : {M : Type 1} → statement M
 object-data-spec =
     tie.close
-    (tie.spec
-    sub-result
-    part-result-start
-    part-result-end
-    returns
-    record-at-requires
-    enum-known-o
-    sub-result-2
-    part-result-start-2
-    part-result-end-2
-    returns-2
-    sub-result-3
-    part-result-start-3
-    part-result-end-3
-    returns-3
-    add-result
-    sub-result-4
-    part-result-start-4
-    part-result-end-4
-    returns-4
-    enum-told
-    sub-result-5
-    part-result-start-5
-    part-result-end-5
-    returns-5)
+    (tie.spec (λ c. search needs) (λ c. search needs) (λ c. search needs) returns (λ c κs. search needs) (λ c. search needs)
+    (λ c. search needs) (λ c. search needs) (λ c. search needs) returns-2 (λ c. search needs) (λ c. search needs) (λ c. search needs)
+    returns-3 add-result (λ c. search needs) (λ c. search needs) part-result-end-4 returns-4 (λ c. search needs) (λ c. search needs)
+    (λ c. search needs) (λ c. search needs) returns-5)

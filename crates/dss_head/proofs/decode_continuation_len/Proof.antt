@@ -3,12 +3,6 @@ use borrow.Author.Needs.{needs}
 use Rattle.dss_head.proofs.decode_continuation_len.Statement.{statement}
 use Rattle.dss_head.proofs.decode_continuation_len.Tie as tie
 
-is-full-continuation-len-requires : tie.Need-is-full-continuation-len-requires
-is-full-continuation-len-requires c κs = search needs
-
-cast-result : tie.Need-cast-result
-cast-result c = search needs
-
 returns : tie.Need-returns
 returns c = rw (← c .before .is-full-continuation-len .ensures, c .if1 .taken)
 
@@ -16,5 +10,4 @@ returns-2 : tie.Need-returns-2
 returns-2 c = rw (← c .before .is-full-continuation-len .ensures, c .if1 .left)
 
 pub decode-continuation-len-spec : {M : Type 1} → statement M
-decode-continuation-len-spec =
-    tie.close (tie.spec is-full-continuation-len-requires cast-result returns returns-2)
+decode-continuation-len-spec = tie.close (tie.spec (λ c κs. search needs) (λ c. search needs) returns returns-2)

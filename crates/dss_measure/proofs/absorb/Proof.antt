@@ -11,10 +11,10 @@ use Rattle.dss_frame.specs.Segments.{first}
 use Rattle.dss_frame.specs.Reading.{look, absorb}
 use Rattle.dss_measure.specs.declared.Look.{Look}
 use Rattle.dss_measure.specs.declared.Look.the-variants.{Finished}
-use Rattle.dss_measure.specs.declared.Sofar.{Sofar}
-use Rattle.dss_measure.specs.Measure.{lookedOf}
-use Rattle.wire.specs.Laws.{part-length}
-use Rattle.dss_measure.specs.Absorbing.{Absorbing, absorbing-one, absorbing-finished, absorbing-refused, absorbing-there, absorbing-len, absorbing-more}
+use Rattle.dss_measure.specs.declared.PayloadSoFar.{PayloadSoFar}
+use Rattle.dss_measure.specs.inner.Walking.{lookedOf}
+use Rattle.wire.proofs.WireLaws.{part-length}
+use Rattle.dss_measure.proofs.Absorbing.{Absorbing, absorbing-one, absorbing-finished, absorbing-refused, absorbing-there, absorbing-len, absorbing-more}
 use Rattle.dss_measure.proofs.absorb.Statement.{statement}
 use Rattle.dss_measure.proofs.absorb.Tie as tie
 
@@ -32,31 +32,19 @@ add-end c = omega arith
 add-started : tie.Need-add-started Inv-loop μ-loop
 add-started c = omega arith
 
-started-requires : tie.Need-started-requires Inv-loop μ-loop
-started-requires c κs = search needs
-
 loop-holds : tie.Need-loop-holds Inv-loop μ-loop
 loop-holds c =
     let a = c .before .before .args in
     let s = a .run .now in
     let e = c .started .ensures in
-    let l : c .started .result .len ≡ a .at + a .seg-len - (a .at + 6) = ap (λ (v : Sofar). v .len) e ∙ part-length s (a .at + 6) (a .at + a .seg-len) (c .before .before .pre .1) in
+    let l : c .started .result .len ≡ a .at + a .seg-len - (a .at + 6) = ap (λ (v : PayloadSoFar). v .len) e ∙ part-length s (a .at + 6) (a .at + a .seg-len) (c .before .before .pre .1) in
     (omega arith, omega arith, omega arith, absorbing-one (a .rules) s (a .at) (a .seg-len) (a .head) (c .started .result) e)
-
-starts-extended-requires : tie.Need-starts-extended-requires Inv-loop μ-loop
-starts-extended-requires c κs = search needs
-
-look-behind-requires : tie.Need-look-behind-requires Inv-loop μ-loop
-look-behind-requires c κs = search needs
 
 -- what the look said
 said : (c : tie.After-look-behind Inv-loop μ-loop) (l : Look) → c .look-behind .result ≡ l
     → (let m = c .before .before in
     lookedOf (look (m .before .before .before .args .rules) (m .before .before .before .args .run .now) (m .loop .header .«dss_type») (c .before .starts-extended .result) (m .loop .end)) ≡ l)
 said c l e = sym (c .look-behind .ensures) ∙ e
-
-enum-told : tie.Need-enum-told Inv-loop μ-loop
-enum-told c = search needs
 
 returns : tie.Need-returns Inv-loop μ-loop
 returns c =
@@ -67,9 +55,6 @@ returns c =
     (absorbing-finished (a .rules) (a .run .now) (a .at) _ (m .loop .header) (m .loop .segments) (m .loop .end) (m .loop .sofar) (b .before .starts-extended .result)
     (m .loop .inv .3) (b .before .starts-extended .ensures) (said b Finished (c .enum-told .given .1)))
 
-enum-known-refused : tie.Need-enum-known-refused Inv-loop μ-loop
-enum-known-refused c = search needs
-
 returns-2 : tie.Need-returns-2 Inv-loop μ-loop
 returns-2 c =
     let b = c .before .before .before in
@@ -78,9 +63,6 @@ returns-2 c =
     sym
     (absorbing-refused (a .rules) (a .run .now) (a .at) _ (m .loop .header) (m .loop .segments) (m .loop .end) (m .loop .sofar) (b .before .starts-extended .result)
     (m .loop .inv .3) (b .before .starts-extended .ensures) _ (said b _ (c .before .refused .given .1)))
-
-enum-known-dropped : tie.Need-enum-known-dropped Inv-loop μ-loop
-enum-known-dropped c = search needs
 
 -- where the segment that is absorbed lies
 there : (c : tie.After-dropped Inv-loop μ-loop)
@@ -103,9 +85,6 @@ grown-requires : tie.Need-grown-requires Inv-loop μ-loop
 grown-requires c κs =
     let t = there (c .before) in
     (omega arith, omega arith, omega arith)
-
-with-chained-requires : tie.Need-with-chained-requires Inv-loop μ-loop
-with-chained-requires c κs = search needs
 
 add-segments : tie.Need-add-segments Inv-loop μ-loop
 add-segments c = omega arith
@@ -139,24 +118,6 @@ loop-again c =
 pub absorb-spec : {M : Type 1} → statement M
 absorb-spec =
     tie.close
-    (tie.spec
-    Inv-loop
-    μ-loop
-    add-end
-    add-started
-    started-requires
-    loop-holds
-    starts-extended-requires
-    look-behind-requires
-    enum-told
-    returns
-    enum-known-refused
-    returns-2
-    enum-known-dropped
-    add-grown
-    add-grown-2
-    grown-requires
-    with-chained-requires
-    add-segments
-    loop-less
-    loop-again)
+    (tie.spec Inv-loop μ-loop add-end add-started (λ c κs. search needs) loop-holds (λ c κs. search needs) (λ c κs. search needs)
+    (λ c. search needs) returns (λ c. search needs) returns-2 (λ c. search needs) add-grown add-grown-2 grown-requires
+    (λ c κs. search needs) add-segments loop-less loop-again)

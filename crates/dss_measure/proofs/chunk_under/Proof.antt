@@ -4,27 +4,15 @@ use mathlib.Core.Path.{sym, ap, _∙_}
 use borrow.Author.Needs.{needs}
 use Rattle.dss_frame.specs.Rules.{chunkUnder}
 use Rattle.dss_frame.specs.declared.Rules.{Rules}
-use Rattle.dss_laws.specs.RawLengths.{chunk-same, chunk-last-full}
+use Rattle.dss_laws.proofs.RawLengths.{chunk-same, chunk-last-full}
 use Rattle.dss_measure.proofs.chunk_under.Statement.{statement}
 use Rattle.dss_measure.proofs.chunk_under.Tie as tie
-
-enum-told : tie.Need-enum-told
-enum-told c = search needs
-
-decide-continuation-requires : tie.Need-decide-continuation-requires
-decide-continuation-requires c κs = search needs
-
-enum-told-2 : tie.Need-enum-told-2
-enum-told-2 c = search needs
 
 returns : tie.Need-returns
 returns c =
     let e = c .before in
     let raw = e .before .before .args .raw in
     sym (ap (λ (x : Rules). chunkUnder x raw) (e .enum-told2 .given .1) ∙ chunk-last-full raw (omega (arith, c .if1 .taken)) (omega (arith, c .if1 .taken)))
-
-decide-continuation-requires-2 : tie.Need-decide-continuation-requires-2
-decide-continuation-requires-2 c κs = search needs
 
 returns-2 : tie.Need-returns-2
 returns-2 c = c .decide-continuation .ensures ∙ sym (ap (λ (x : Rules). chunkUnder x (c .before .before .before .args .raw)) (c .before .enum-told .given .1))
@@ -38,11 +26,4 @@ returns-3 c =
 pub chunk-under-spec : {M : Type 1} → statement M
 chunk-under-spec =
     tie.close
-    (tie.spec
-    enum-told
-    decide-continuation-requires
-    enum-told-2
-    returns
-    decide-continuation-requires-2
-    returns-2
-    returns-3)
+    (tie.spec (λ c. search needs) (λ c κs. search needs) (λ c. search needs) returns (λ c κs. search needs) returns-2 returns-3)

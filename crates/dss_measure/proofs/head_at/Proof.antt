@@ -7,30 +7,12 @@ use lib.ListN.{length, drop, length-drop}
 use lib.Seq.{take-all}
 use borrow.Author.Needs.{needs}
 use Rattle.dss_head.specs.Heads.{headAt}
-use Rattle.dss_head.specs.HeadLaws.{head-short, head-placed, movedTo}
+use Rattle.dss_head.proofs.HeadLaws.{head-short, head-placed, movedTo}
 use Rattle.dss_measure.proofs.head_at.Statement.{statement}
 use Rattle.dss_measure.proofs.head_at.Tie as tie
 
 returns : tie.Need-returns
 returns c = sym (head-short (c .before .before .args .run .now) (c .before .before .args .at) 0 (omega arith) (omega arith))
-
-sub-parse : tie.Need-sub-parse
-sub-parse c = search needs
-
-part-parse-start : tie.Need-part-parse-start
-part-parse-start c = search needs
-
-part-parse-end : tie.Need-part-parse-end
-part-parse-end c = search needs
-
-parse-requires : tie.Need-parse-requires
-parse-requires c κs = search needs
-
-enum-known-header : tie.Need-enum-known-header
-enum-known-header c = search needs
-
-enum-known-refused : tie.Need-enum-known-refused
-enum-known-refused c = search needs
 
 -- what the part from the place on parses to, at that place
 placed : (c : tie.After-parse) → headAt (c .before .before .before .before .args .run .now) (c .before .before .before .before .args .at) ≡ movedTo (c .before .before .before .before .args .at) (c .parse .result)
@@ -49,13 +31,5 @@ returns-3 c = sym (placed (c .before .before .before) ∙ ap (movedTo _) (c .bef
 pub head-at-spec : {M : Type 1} → statement M
 head-at-spec =
     tie.close
-    (tie.spec
-    returns
-    sub-parse
-    part-parse-start
-    part-parse-end
-    parse-requires
-    enum-known-header
-    enum-known-refused
-    returns-2
-    returns-3)
+    (tie.spec returns (λ c. search needs) (λ c. search needs) (λ c. search needs) (λ c κs. search needs) (λ c. search needs)
+    (λ c. search needs) returns-2 returns-3)

@@ -4,34 +4,16 @@ use mathlib.Core.Path.{_≡_, sym, ap, _∙_}
 use borrow.Author.Needs.{needs}
 use Rattle.dss_head.specs.declared.HeadFound.{HeadFound}
 use Rattle.dss_frame.specs.Reading.{look, lookAt}
-use Rattle.dss_laws.specs.Looks.{look-nothing}
-use Rattle.dss_measure.specs.Measure.{lookedOf}
-use Rattle.dss_measure.specs.Looks.{look-head}
+use Rattle.dss_laws.proofs.Looking.{look-nothing}
+use Rattle.dss_measure.specs.inner.Walking.{lookedOf}
+use Rattle.dss_measure.proofs.LookLaws.{look-head}
 use Rattle.dss_measure.proofs.look_behind.Statement.{statement}
 use Rattle.dss_measure.proofs.look_behind.Tie as tie
-
-left-requires : tie.Need-left-requires
-left-requires c κs = search needs
 
 returns : tie.Need-returns
 returns c =
     let a = c .before .before .before .args in
     ap lookedOf (sym (look-nothing (a .rules) (a .run .now) (a .at) (omega arith) (a .first) (a .extended)))
-
-head-at-requires : tie.Need-head-at-requires
-head-at-requires c κs = search needs
-
-enum-known-header : tie.Need-enum-known-header
-enum-known-header c = search needs
-
-look-head-requires : tie.Need-look-head-requires
-look-head-requires c κs = search needs
-
-enum-known-refused : tie.Need-enum-known-refused
-enum-known-refused c = search needs
-
-refusal-requires : tie.Need-refusal-requires
-refusal-requires c κs = search needs
 
 -- six bytes are there: the head decides
 decides : (c : tie.After-head-at) (f : HeadFound) → c .head-at .result ≡ f
@@ -49,13 +31,5 @@ returns-3 c = c .refusal .ensures ∙ ap lookedOf (sym (decides (c .before .befo
 pub look-behind-spec : {M : Type 1} → statement M
 look-behind-spec =
     tie.close
-    (tie.spec
-    left-requires
-    returns
-    head-at-requires
-    enum-known-header
-    look-head-requires
-    enum-known-refused
-    refusal-requires
-    returns-2
-    returns-3)
+    (tie.spec (λ c κs. search needs) returns (λ c κs. search needs) (λ c. search needs) (λ c κs. search needs) (λ c. search needs)
+    (λ c κs. search needs) returns-2 returns-3)

@@ -3,12 +3,10 @@ use native.Mathlib.Omega.{arith}
 use mathlib.Core.Path.{sym, ap, _∙_}
 use borrow.Author.Needs.{needs}
 use Rattle.dss_measure.specs.Measure.{extentOf}
-use Rattle.dss_measure.specs.Glance.{Lone, lone-measured}
+use Rattle.dss_measure.specs.inner.Glancing.{Lone}
+use Rattle.dss_measure.proofs.GlanceLaws.{lone-measured}
 use Rattle.dss_measure.proofs.measure_extent.Statement.{statement}
 use Rattle.dss_measure.proofs.measure_extent.Tie as tie
-
-lone-len-requires : tie.Need-lone-len-requires
-lone-len-requires c κs = search needs
 
 -- the frame stands alone
 lone : (c : tie.Then1) → (let a = c .before .before .before .args in Lone (a .run .now) (a .at) (c .before .lone-len .result))
@@ -25,15 +23,6 @@ returns c =
     let a = c .before .before .before .args in
     ap extentOf (sym (lone-measured (a .rules) (a .run .now) (a .at) (c .before .lone-len .result) (lone c)))
 
-measure-requires : tie.Need-measure-requires
-measure-requires c κs = search needs
-
-enum-known-refused : tie.Need-enum-known-refused
-enum-known-refused c = search needs
-
-enum-known-measure : tie.Need-enum-known-measure
-enum-known-measure c = search needs
-
 returns-2 : tie.Need-returns-2
 returns-2 c = ap extentOf (sym (c .before .refused .given .1) ∙ c .before .before .before .measure .ensures)
 
@@ -43,13 +32,5 @@ returns-3 c = ap extentOf (sym (c .before .measure2 .given .1) ∙ c .before .be
 pub measure-extent-spec : {M : Type 1} → statement M
 measure-extent-spec =
     tie.close
-    (tie.spec
-    lone-len-requires
-    sub-t8
-    add-t9
-    returns
-    measure-requires
-    enum-known-refused
-    enum-known-measure
-    returns-2
+    (tie.spec (λ c κs. search needs) sub-t8 add-t9 returns (λ c κs. search needs) (λ c. search needs) (λ c. search needs) returns-2
     returns-3)

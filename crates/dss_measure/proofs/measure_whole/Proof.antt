@@ -10,15 +10,9 @@ use Rattle.dss_head.specs.declared.HeadFound.the-variants.{Head}
 use Rattle.dss_frame.specs.Segments.{first}
 use Rattle.dss_frame.specs.Reading.{absorb}
 use Rattle.dss_measure.specs.Measure.{measuredOf}
-use Rattle.dss_measure.specs.Readings.{measured-refused, measured-length, measured-several, measured-single, single-there, whole-six}
+use Rattle.dss_measure.proofs.Readings.{measured-refused, measured-length, measured-several, measured-single, single-there, whole-six}
 use Rattle.dss_measure.proofs.measure_whole.Statement.{statement}
 use Rattle.dss_measure.proofs.measure_whole.Tie as tie
-
-head-at-requires : tie.Need-head-at-requires
-head-at-requires c κs = search needs
-
-enum-known-refused : tie.Need-enum-known-refused
-enum-known-refused c = search needs
 
 returns : tie.Need-returns
 returns c =
@@ -28,15 +22,6 @@ returns c =
     sym
     (measured-refused (a .rules) (a .run .now) (a .at) (a .end) (a .segments) (a .payload-len) (start .pre) _
     (sym (c .before .refused .given .1) ∙ f .head-at .ensures))
-
-enum-known-header : tie.Need-enum-known-header
-enum-known-header c = search needs
-
-u16-at-requires : tie.Need-u16-at-requires
-u16-at-requires c κs = search needs
-
-cast-seg-len : tie.Need-cast-seg-len
-cast-seg-len c = search needs
 
 -- the head that was found
 found : (c : tie.After-u16-at) → (let a = c .before .before .before .before .before .before .args in Head (c .before .before .header .given .0 .0) ≡ headAt (a .run .now) (a .at))
@@ -84,14 +69,5 @@ returns-4 c =
 pub measure-whole-spec : {M : Type 1} → statement M
 measure-whole-spec =
     tie.close
-    (tie.spec
-    head-at-requires
-    enum-known-refused
-    returns
-    enum-known-header
-    u16-at-requires
-    cast-seg-len
-    returns-2
-    returns-3
-    single-requires
-    returns-4)
+    (tie.spec (λ c κs. search needs) (λ c. search needs) returns (λ c. search needs) (λ c κs. search needs) (λ c. search needs) returns-2
+    returns-3 single-requires returns-4)

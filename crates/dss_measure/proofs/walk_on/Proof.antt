@@ -8,7 +8,7 @@ use borrow.Author.Needs.{needs}
 use Rattle.dss_head.specs.declared.Chunk.{Chunk}
 use Rattle.dss_head.specs.declared.Chunk.the-variants.{Dead, Last, Full}
 use Rattle.dss_frame.specs.Rules.{chunkUnder}
-use Rattle.dss_measure.specs.Walks.{walkedOn, on-nothing, on-dead, on-last, on-last-short, on-full, on-full-short, last-two}
+use Rattle.dss_measure.proofs.WalkLaws.{walkedOn, on-nothing, on-dead, on-last, on-last-short, on-full, on-full-short, last-two}
 use Rattle.dss_measure.proofs.walk_on.Statement.{statement}
 use Rattle.dss_measure.proofs.walk_on.Tie as tie
 
@@ -24,18 +24,6 @@ loop-holds c = (omega arith, omega arith, omega arith, refl)
 
 sub-there : tie.Need-sub-there Inv-loop μ-loop
 sub-there c = omega arith
-
-u16-at-requires : tie.Need-u16-at-requires Inv-loop μ-loop
-u16-at-requires c κs = search needs
-
-chunk-under-requires : tie.Need-chunk-under-requires Inv-loop μ-loop
-chunk-under-requires c κs = search needs
-
-enum-told : tie.Need-enum-told Inv-loop μ-loop
-enum-told c = search needs
-
-enum-told-2 : tie.Need-enum-told-2 Inv-loop μ-loop
-enum-told-2 c = search needs
 
 cast-continuation-len : tie.Need-cast-continuation-len Inv-loop μ-loop
 cast-continuation-len c = omega arith
@@ -60,9 +48,6 @@ sub-t20 c = two-there c
 
 add-t21 : tie.Need-add-t21 Inv-loop μ-loop
 add-t21 c = omega (arith, two-there c)
-
-enum-told-3 : tie.Need-enum-told-3 Inv-loop μ-loop
-enum-told-3 c = search needs
 
 add-at : tie.Need-add-at Inv-loop μ-loop
 add-at c = omega arith
@@ -115,28 +100,6 @@ returns-5 c =
 pub walk-on-spec : {M : Type 1} → statement M
 walk-on-spec =
     tie.close
-    (tie.spec
-    Inv-loop
-    μ-loop
-    loop-holds
-    sub-there
-    u16-at-requires
-    chunk-under-requires
-    enum-told
-    enum-told-2
-    cast-continuation-len
-    add-t18
-    add-t19
-    sub-t20
-    add-t21
-    enum-told-3
-    add-at
-    add-segments
-    add-payload-len
-    loop-less
-    loop-again
-    returns
-    returns-2
-    returns-3
-    returns-4
-    returns-5)
+    (tie.spec Inv-loop μ-loop loop-holds sub-there (λ c κs. search needs) (λ c κs. search needs) (λ c. search needs) (λ c. search needs)
+    cast-continuation-len add-t18 add-t19 sub-t20 add-t21 (λ c. search needs) add-at add-segments add-payload-len loop-less loop-again
+    returns returns-2 returns-3 returns-4 returns-5)

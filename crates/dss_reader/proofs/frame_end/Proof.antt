@@ -1,24 +1,13 @@
 -- `dss_reader::frame_end` meets its contract: 10 by its law, and each answer of the walk by its own.
-use mathlib.Core.Path.{sym, _∙_}
+use mathlib.Core.Path.{sym, ap, _∙_}
 use borrow.Author.Needs.{needs}
-use Rattle.dss_reader.specs.FrameEnds.{end-beyond, end-whole, end-short, end-dead}
+use Rattle.dss_reader.specs.declared.FrameEnd.the-variants.{Refused as NoEnd}
+use Rattle.dss_reader.proofs.FrameEnds.{end-beyond, end-whole, end-short, end-dead}
 use Rattle.dss_reader.proofs.frame_end.Statement.{statement}
 use Rattle.dss_reader.proofs.frame_end.Tie as tie
 
 returns : tie.Need-returns
-returns c = sym (end-beyond _ _ (c .if1 .taken))
-
-walk-frame-requires : tie.Need-walk-frame-requires
-walk-frame-requires c κs = search needs
-
-enum-known-end : tie.Need-enum-known-end
-enum-known-end c = search needs
-
-enum-told : tie.Need-enum-told
-enum-told c = search needs
-
-enum-known-place : tie.Need-enum-known-place
-enum-known-place c = search needs
+returns c = ap NoEnd (c .out-of-bounds .ensures) ∙ sym (end-beyond _ _ (c .before .if1 .taken))
 
 returns-2 : tie.Need-returns-2
 returns-2 c =
@@ -38,12 +27,5 @@ returns-4 c =
 pub frame-end-spec : {M : Type 1} → statement M
 frame-end-spec =
     tie.close
-    (tie.spec
-    returns
-    walk-frame-requires
-    enum-known-end
-    enum-told
-    enum-known-place
-    returns-2
-    returns-3
-    returns-4)
+    (tie.spec (λ c κs. search needs) returns (λ c κs. search needs) (λ c. search needs) (λ c. search needs) (λ c. search needs) returns-2
+    returns-3 returns-4)

@@ -8,29 +8,21 @@ use borrow.Author.Needs.{needs}
 use Rattle.dss_frame.specs.declared.Rules.the-variants.{Reader}
 use Rattle.dss_frame.specs.Reading.{refused, readAt}
 use Rattle.dss_measure.specs.Measure.{measuredAt}
-use Rattle.dss_measure.specs.Extents.{Spanned, spanned, not-spanned}
-use Rattle.dss_row.specs.Measures.{Measures, measures, measured-not}
-use Rattle.dss_reader.specs.Measuring.{measuredAll, addsAll, adds-none, all-frame, all-end, all-refused}
+use Rattle.dss_measure.proofs.Extents.{Spanned, spanned, not-spanned}
+use Rattle.dss_measure.proofs.Measures.{Measures, measures, measured-not}
+use Rattle.dss_reader.specs.inner.MeasuredAll.{measuredFrames}
+use Rattle.dss_reader.proofs.MeasuredFrames.{addsAll, adds-none, all-frame, all-end, all-refused}
 use Rattle.dss_reader.proofs.measure_all.Statement.{statement}
 use Rattle.dss_reader.proofs.measure_all.Tie as tie
 
 abbrev Inv-loop : tie.InvT-loop
-Inv-loop run from at₀ count₀ bytes₀ at count bytes = (count ≤ at) × (bytes ≤ at) × (measuredAll run from ≡ addsAll count bytes (measuredAll run at))
+Inv-loop run from at₀ count₀ bytes₀ at count bytes = (count ≤ at) × (bytes ≤ at) × (measuredFrames run from ≡ addsAll count bytes (measuredFrames run at))
 
 abbrev μ-loop : tie.MeasureT-loop
 μ-loop run from at₀ count₀ bytes₀ at count bytes = length run - at
 
 loop-holds : tie.Need-loop-holds Inv-loop μ-loop
 loop-holds c = (omega arith, omega arith, adds-none _)
-
-measure-extent-requires : tie.Need-measure-extent-requires Inv-loop μ-loop
-measure-extent-requires c κs = search needs
-
-enum-known-refused : tie.Need-enum-known-refused Inv-loop μ-loop
-enum-known-refused c = search needs
-
-not-whole-requires : tie.Need-not-whole-requires Inv-loop μ-loop
-not-whole-requires c κs = search needs
 
 -- the refusal that was found
 not-read : (c : tie.After-known-told Inv-loop μ-loop)
@@ -47,9 +39,6 @@ returns-2 : tie.Need-returns-2 Inv-loop μ-loop
 returns-2 c =
     let n = c .before .before in
     sym (n .before .before .before .before .loop .inv .2 ∙ all-refused _ _ _ _ _ (not-read n) (sym (c .before .not-whole .ensures) ∙ c .if1 .left))
-
-enum-known-payload-len : tie.Need-enum-known-payload-len Inv-loop μ-loop
-enum-known-payload-len c = search needs
 
 -- what the extent is of
 extends : (c : tie.After-payload-len Inv-loop μ-loop)
@@ -81,23 +70,11 @@ loop-again c =
       omega arith,
       m .loop .inv .2
           ∙ all-frame _ _ _ _ _ w
-          ∙ ap₂ (λ (n e : ℕ). addsAll (m .loop .count + 1) (m .loop .bytes + n) (measuredAll s e)) (sym (x .long)) (sym (x .ends)),
+          ∙ ap₂ (λ (n e : ℕ). addsAll (m .loop .count + 1) (m .loop .bytes + n) (measuredFrames s e)) (sym (x .long)) (sym (x .ends)),
     )
 
 pub measure-all-spec : {M : Type 1} → statement M
 measure-all-spec =
     tie.close
-    (tie.spec
-    Inv-loop
-    μ-loop
-    loop-holds
-    measure-extent-requires
-    enum-known-refused
-    not-whole-requires
-    returns
-    returns-2
-    enum-known-payload-len
-    add-count
-    add-bytes
-    loop-less
-    loop-again)
+    (tie.spec Inv-loop μ-loop loop-holds (λ c κs. search needs) (λ c. search needs) (λ c κs. search needs) returns returns-2
+    (λ c. search needs) add-count add-bytes loop-less loop-again)

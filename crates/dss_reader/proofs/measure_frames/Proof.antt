@@ -1,20 +1,11 @@
 -- `dss_reader::measure_frames` meets its contract: a refusal, 9 and the frames by their laws, from what measuring counted.
 use mathlib.Core.Path.{sym, ap, _∙_}
-use Rattle.dss_reader.specs.Measuring.{Counted, all-counted, all-not}
-use Rattle.dss_reader.specs.Gathered.{answers-refused, wide-bytes, wide-records, answers-none, answers-frames}
+use Rattle.dss_reader.proofs.MeasuredFrames.{Counted, all-counted, all-not}
+use Rattle.dss_reader.proofs.GatheredFrames.{answers-refused, wide-bytes, wide-records, answers-none, answers-frames}
 use Rattle.dss_reader.specs.declared.FramesRead.the-variants.{Refused as NoneRead}
 use borrow.Author.Needs.{needs}
 use Rattle.dss_reader.proofs.measure_frames.Statement.{statement}
 use Rattle.dss_reader.proofs.measure_frames.Tie as tie
-
-measure-all-requires : tie.Need-measure-all-requires
-measure-all-requires c κs = search needs
-
-enum-known-refused : tie.Need-enum-known-refused
-enum-known-refused c = search needs
-
-enum-known-count : tie.Need-enum-known-count
-enum-known-count c = search needs
 
 -- what was counted
 told : (c : tie.After-count)
@@ -22,26 +13,17 @@ told : (c : tie.After-count)
     let g = c .count .given .0 in Counted (a .run .now) (a .at) (g .0) (g .1 .0) (g .1 .1 .0))
 told c = all-counted _ _ _ _ _ (sym (c .before .before .measure-all .ensures) ∙ c .count .given .1)
 
-no-room-requires : tie.Need-no-room-requires
-no-room-requires c κs = search needs
-
 returns : tie.Need-returns
 returns c =
     let n = c .before .before .before in
     let a = n .before .before .before .before .args in
     answers-none (a .size) (a .rows) (told n) _ (wide-bytes (a .size) (a .rows) (told n) (c .before .if1 .taken)) (c .no-room .ensures)
 
-no-room-requires-2 : tie.Need-no-room-requires-2
-no-room-requires-2 c κs = search needs
-
 returns-2 : tie.Need-returns-2
 returns-2 c =
     let n = c .before .before .before .before in
     let a = n .before .before .before .before .args in
     answers-none (a .size) (a .rows) (told n) _ (wide-records (a .size) (a .rows) (told n) (c .before .if2 .taken)) (c .no-room2 .ensures)
-
-left-at-requires : tie.Need-left-at-requires
-left-at-requires c κs = search needs
 
 returns-3 : tie.Need-returns-3
 returns-3 c =
@@ -57,14 +39,5 @@ returns-4 c =
 pub measure-frames-spec : {M : Type 1} → statement M
 measure-frames-spec =
     tie.close
-    (tie.spec
-    measure-all-requires
-    enum-known-refused
-    left-at-requires
-    enum-known-count
-    no-room-requires
-    returns
-    no-room-requires-2
-    returns-2
-    returns-3
-    returns-4)
+    (tie.spec (λ c κs. search needs) (λ c. search needs) (λ c κs. search needs) (λ c. search needs) (λ c κs. search needs) returns
+    (λ c κs. search needs) returns-2 returns-3 returns-4)

@@ -7,12 +7,13 @@ use lib.ListN.{length}
 use borrow.Author.Needs.{needs}
 use Rattle.wire.specs.Bytes.{splice}
 use Rattle.dss_frame.specs.Frames.{allFrames}
-use Rattle.dss_reader.specs.Taking.{allPayloads, Taking, taking-start, taking-inside, taking-length, taking-room, taking-more, taking-past, taking-done}
+use Rattle.dss_reader.specs.inner.TakingAll.{allPayloads}
+use Rattle.dss_reader.proofs.TakingFrames.{TakingAll, taking-start, taking-inside, taking-length, taking-room, taking-more, taking-past, taking-done}
 use Rattle.dss_reader.proofs.take_all.Statement.{statement}
 use Rattle.dss_reader.proofs.take_all.Tie as tie
 
 abbrev Inv-loop : tie.InvT-loop
-Inv-loop run from room₀ at₀ mark₀ room at mark = Taking run (splice room₀ 0 (allPayloads run (allFrames run from))) room at mark
+Inv-loop run from room₀ at₀ mark₀ room at mark = TakingAll run (splice room₀ 0 (allPayloads run (allFrames run from))) room at mark
 
 abbrev μ-loop : tie.MeasureT-loop
 μ-loop run from room₀ at₀ mark₀ room at mark = length run - at
@@ -25,15 +26,6 @@ sub-take c = taking-inside (c .loop .inv)
 
 part-take-start : tie.Need-part-take-start Inv-loop μ-loop
 part-take-start c = taking-inside (c .loop .inv)
-
-part-take-end : tie.Need-part-take-end Inv-loop μ-loop
-part-take-end c = search needs
-
-take-requires : tie.Need-take-requires Inv-loop μ-loop
-take-requires c κs = search needs
-
-enum-told : tie.Need-enum-told Inv-loop μ-loop
-enum-told c = search needs
 
 -- as long as it was
 long : (c : tie.At-loop Inv-loop μ-loop) → length (c .loop .room) ≡ length (c .before .before .before .args .room .now)
@@ -49,9 +41,6 @@ returns : tie.Need-returns Inv-loop μ-loop
 returns c =
     let k = c .before .before .before .before in
     taking-done (k .before .before .loop .inv) _ _ (k .take .result) (k .take .ensures) (c .enum-told .given .1)
-
-enum-known-measure : tie.Need-enum-known-measure Inv-loop μ-loop
-enum-known-measure c = search needs
 
 add-mark : tie.Need-add-mark Inv-loop μ-loop
 add-mark c =
@@ -71,18 +60,5 @@ loop-again c =
 pub take-all-spec : {M : Type 1} → statement M
 take-all-spec =
     tie.close
-    (tie.spec
-    Inv-loop
-    μ-loop
-    loop-holds
-    sub-take
-    part-take-start
-    part-take-end
-    take-requires
-    enum-told
-    same-length
-    returns
-    enum-known-measure
-    add-mark
-    loop-less
-    loop-again)
+    (tie.spec Inv-loop μ-loop loop-holds sub-take part-take-start (λ c. search needs) (λ c κs. search needs) (λ c. search needs)
+    same-length returns (λ c. search needs) add-mark loop-less loop-again)

@@ -3,25 +3,13 @@ use native.Mathlib.Omega.{arith}
 use mathlib.Core.Path.{sym, _∙_}
 use borrow.Author.Needs.{needs}
 use Rattle.dss_frame.specs.declared.Rules.the-variants.{Reader}
-use Rattle.dss_row.specs.Measures.{Measures, measures, measured-not}
-use Rattle.dss_row.specs.RowLaws.{record-none, record-read, record-measured}
+use Rattle.dss_measure.proofs.Measures.{Measures, measures, measured-not}
+use Rattle.dss_row.proofs.FrameRowLaws.{record-none, record-read, record-measured}
 use Rattle.dss_row.proofs.record_at.Statement.{statement}
 use Rattle.dss_row.proofs.record_at.Tie as tie
 
 returns : tie.Need-returns
 returns c = sym (record-none _ _ (c .if1 .taken))
-
-measure-requires : tie.Need-measure-requires
-measure-requires c κs = search needs
-
-enum-told : tie.Need-enum-told
-enum-told c = search needs
-
-enum-known-measure : tie.Need-enum-known-measure
-enum-known-measure c = search needs
-
-record-requires : tie.Need-record-requires
-record-requires c κs = search needs
 
 -- what the measure is of
 measured : (c : tie.After-measure2)
@@ -31,9 +19,6 @@ measured c = measures Reader _ _ _ (sym (c .before .before .measure .ensures) �
 
 add-t13 : tie.Need-add-t13
 add-t13 c = omega (arith, measured (c .before .before .before))
-
-sub-t14 : tie.Need-sub-t14
-sub-t14 c = search needs
 
 returns-2 : tie.Need-returns-2
 returns-2 c =
@@ -48,13 +33,5 @@ returns-3 c =
 pub record-at-spec : {M : Type 1} → statement M
 record-at-spec =
     tie.close
-    (tie.spec
-    returns
-    measure-requires
-    enum-told
-    enum-known-measure
-    record-requires
-    add-t13
-    sub-t14
-    returns-2
-    returns-3)
+    (tie.spec returns (λ c κs. search needs) (λ c. search needs) (λ c. search needs) (λ c κs. search needs) add-t13 (λ c. search needs)
+    returns-2 returns-3)

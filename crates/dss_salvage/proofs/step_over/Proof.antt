@@ -2,33 +2,15 @@
 use native.Mathlib.Omega.{arith}
 use mathlib.Core.Path.{sym, _∙_}
 use borrow.Author.Needs.{needs}
-use Rattle.dss_salvage.specs.Stepping.{over-short, over-dead, over-last, over-on}
+use Rattle.dss_salvage.proofs.SalvageStepping.{over-short, over-dead, over-last, over-on}
 use Rattle.dss_salvage.proofs.step_over.Statement.{statement}
 use Rattle.dss_salvage.proofs.step_over.Tie as tie
-
-walk-frame-requires : tie.Need-walk-frame-requires
-walk-frame-requires c κs = search needs
-
-enum-told : tie.Need-enum-told
-enum-told c = search needs
 
 returns : tie.Need-returns
 returns c = sym (over-short _ _ _ (sym (c .before .before .walk-frame .ensures) ∙ c .enum-told .given .1))
 
-enum-told-2 : tie.Need-enum-told-2
-enum-told-2 c = search needs
-
 returns-2 : tie.Need-returns-2
 returns-2 c = sym (over-dead _ _ _ _ (sym (c .before .before .walk-frame .ensures) ∙ c .enum-told2 .given .1))
-
-enum-known-end : tie.Need-enum-known-end
-enum-known-end c = search needs
-
-u16-at-requires : tie.Need-u16-at-requires
-u16-at-requires c κs = search needs
-
-cast-seg-len : tie.Need-cast-seg-len
-cast-seg-len c = search needs
 
 returns-3 : tie.Need-returns-3
 returns-3 c =
@@ -43,14 +25,5 @@ returns-4 c =
 pub step-over-spec : {M : Type 1} → statement M
 step-over-spec =
     tie.close
-    (tie.spec
-    walk-frame-requires
-    enum-told
-    returns
-    enum-told-2
-    returns-2
-    enum-known-end
-    u16-at-requires
-    cast-seg-len
-    returns-3
-    returns-4)
+    (tie.spec (λ c κs. search needs) (λ c. search needs) returns (λ c. search needs) returns-2 (λ c. search needs) (λ c κs. search needs)
+    (λ c. search needs) returns-3 returns-4)

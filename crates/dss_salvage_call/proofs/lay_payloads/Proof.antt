@@ -7,21 +7,21 @@ use mathlib.Core.List.{List}
 use lib.ListN.{length}
 use borrow.Author.Needs.{needs}
 use Rattle.wire.specs.Bytes.{splice}
-use Rattle.wire.specs.Splice.{splice-length}
+use Rattle.wire.proofs.Splicing.{splice-length}
 use Rattle.dss_frame.specs.declared.Rules.the-variants.{Salvage}
 use Rattle.dss_frame.specs.Reading.{refused, readAt}
 use Rattle.dss_measure.specs.declared.Measured.the-variants.{Refused as NotMeasured}
 use Rattle.dss_measure.specs.Measure.{measuredAt}
-use Rattle.dss_row.specs.Measures.{measured-not}
-use Rattle.dss_salvage.specs.Steps.{stepAt}
-use Rattle.dss_salvage.specs.Stepping.{OnFrame, OnOver, step-frame, step-refused, on-frame, on-over, on-last, on-end}
-use Rattle.dss_salvage_call.specs.Gathered.{bytesIn}
-use Rattle.dss_salvage_call.specs.Laying.{Laying, laying-start, laying-room, laying-length, bytes-last, bytes-end, taken-measured, taken-frame, taken-over, taken-end}
+use Rattle.dss_measure.proofs.Measures.{measured-not}
+use Rattle.dss_salvage.specs.inner.SalvageSteps.{stepAt}
+use Rattle.dss_salvage.proofs.SalvageStepping.{OnFrame, OnOver, step-frame, step-refused, on-frame, on-over, on-last, on-end}
+use Rattle.dss_salvage_call.specs.inner.SalvageGathered.{bytesIn}
+use Rattle.dss_salvage_call.proofs.LayingEntries.{LayingEntry, laying-start, laying-room, laying-length, bytes-last, bytes-end, taken-measured, taken-frame, taken-over, taken-end}
 use Rattle.dss_salvage_call.proofs.lay_payloads.Statement.{statement}
 use Rattle.dss_salvage_call.proofs.lay_payloads.Tie as tie
 
 abbrev Inv-loop : tie.InvT-loop
-Inv-loop run room₀ at₀ filled₀ room at filled = Laying run (splice room₀ 0 (bytesIn run)) room at filled
+Inv-loop run room₀ at₀ filled₀ room at filled = LayingEntry run (splice room₀ 0 (bytesIn run)) room at filled
 
 abbrev μ-loop : tie.MeasureT-loop
 μ-loop run room₀ at₀ filled₀ room at filled = length run - at
@@ -37,9 +37,6 @@ part-take-start c = omega (arith, c .loop .inv .fits)
 
 part-take-end : tie.Need-part-take-end Inv-loop μ-loop
 part-take-end c = omega (arith, c .loop .inv .fits)
-
-take-requires : tie.Need-take-requires Inv-loop μ-loop
-take-requires c κs = search needs
 
 -- the room at the end has as many bytes
 same : (s room after : List ℕ) → length (bytesIn s) ≤ length room → after ≡ splice room 0 (bytesIn s) → length after ≡ length room
@@ -58,9 +55,6 @@ module _ (b : tie.After-slice-known2 Inv-loop μ-loop) where
 
   taken : b .before .before .take .result ≡ measuredAt Salvage run (at-loop .loop .at)
   taken = taken-measured _ _ _ _ _ (at-loop .loop .inv) _ _ (b .before .before .take .ensures)
-
-enum-known-measure : tie.Need-enum-known-measure Inv-loop μ-loop
-enum-known-measure c = search needs
 
 -- ---- a frame
 
@@ -85,15 +79,6 @@ loop-again c =
     taken-frame _ _ _ _ _ (at-loop b .loop .inv) _ _ _ (framed (c .before)) (b .before .before .take .ensures)
 
 -- ---- a refusal
-
-enum-known-refused : tie.Need-enum-known-refused Inv-loop μ-loop
-enum-known-refused c = search needs
-
-step-over-requires : tie.Need-step-over-requires Inv-loop μ-loop
-step-over-requires c κs = search needs
-
-enum-known-next : tie.Need-enum-known-next Inv-loop μ-loop
-enum-known-next c = search needs
 
 module _ (c : tie.After-step-over Inv-loop μ-loop) where
   abbrev loop-of : tie.After-slice-known2 Inv-loop μ-loop
@@ -122,9 +107,6 @@ loop-again-2 c =
     let b = loop-of d in
     taken-over _ _ _ _ _ (at-loop b .loop .inv) _ _ _ _ _ (not-read d) (b .before .before .take .ensures) (over c)
 
-enum-told : tie.Need-enum-told Inv-loop μ-loop
-enum-told c = search needs
-
 -- a refusal is no frame
 never : tie.After-enum-told Inv-loop μ-loop → ⊥
 never c =
@@ -142,9 +124,6 @@ returns c = absurd (never c)
 
 -- ---- the end
 
-enum-told-2 : tie.Need-enum-told-2 Inv-loop μ-loop
-enum-told-2 c = search needs
-
 returns-2 : tie.Need-returns-2 Inv-loop μ-loop
 returns-2 c =
     let d = c .before .before in
@@ -155,9 +134,6 @@ same-length-2 : tie.Need-same-length-2 Inv-loop μ-loop
 same-length-2 c =
     let b = loop-of (c .before .before) in
     same (run b) (start b .args .room .now) _ (start b .pre) (returns-2 c)
-
-enum-told-3 : tie.Need-enum-told-3 Inv-loop μ-loop
-enum-told-3 c = search needs
 
 returns-3 : tie.Need-returns-3 Inv-loop μ-loop
 returns-3 c =
@@ -173,29 +149,6 @@ same-length-3 c =
 pub lay-payloads-spec : {M : Type 1} → statement M
 lay-payloads-spec =
     tie.close
-    (tie.spec
-    Inv-loop
-    μ-loop
-    loop-holds
-    sub-take
-    part-take-start
-    part-take-end
-    take-requires
-    enum-known-measure
-    add-filled
-    loop-less
-    loop-again
-    enum-known-refused
-    step-over-requires
-    enum-known-next
-    loop-less-2
-    loop-again-2
-    enum-told
-    same-length
-    returns
-    enum-told-2
-    same-length-2
-    returns-2
-    enum-told-3
-    same-length-3
-    returns-3)
+    (tie.spec Inv-loop μ-loop loop-holds sub-take part-take-start part-take-end (λ c κs. search needs) (λ c. search needs) add-filled
+    loop-less loop-again (λ c. search needs) (λ c κs. search needs) (λ c. search needs) loop-less-2 loop-again-2 (λ c. search needs)
+    same-length returns (λ c. search needs) same-length-2 returns-2 (λ c. search needs) same-length-3 returns-3)

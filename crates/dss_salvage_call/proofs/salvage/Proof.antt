@@ -1,4 +1,4 @@
--- `dss_salvage_call::salvage` meets its contract: a walk of its MIR, by hand, which is a straight line. All that it knows of `gather`, `entries_in` and `dss_salvage_row::fill_entries` is that each meets its contract.
+-- `dss_salvage_call::salvage` meets its contract: a walk of its MIR, by hand, which is a straight line. All that it knows of `gather_entries`, `entries_in` and `dss_salvage_row::fill_entries` is that each meets its contract.
 -- The first and the last are called at the borrows' own lifetimes, shares and ghost names: the room and the row are given up for good (`gave-slice`), and what the callees say of their last lists is said of this function's.
 use mathlib.Core.Path.{_≡_, refl, sym, ap, subst}
 use Prim.Native.Nat.{ℕ, _<_, _^_}
@@ -40,20 +40,21 @@ use denote.Signature.{plain}
 use Rattle.wire.specs.Bytes.{splice}
 use Rattle.dss_salvage.specs.declared.SalvageEntry.{SalvageEntry}
 use Rattle.dss_salvage.specs.declared.Salvaged.{Salvaged}
-use Rattle.dss_salvage.specs.SalvageCall.{Salvages}
+use Rattle.dss_salvage_call.specs.SalvageCall.{SalvagesRun, GathersEntries, entriesIn}
 use Rattle.dss_salvage.proofs.SalvageEntry as R
 use Rattle.dss_salvage.proofs.Salvaged as G
 use Rattle.dss_salvage.proofs.Salvaged.Laws as G′
-use Rattle.dss_salvage_row.specs.Entries.{recordsFrom, startsAt}
+use Rattle.dss_frame.specs.inner.RowStart.{startsAt}
+use Rattle.dss_salvage_row.specs.inner.EntryRows.{entryRecordsFrom}
 use Rattle.dss_salvage_row.proofs.fill_entries as fill
 use Rattle.dss_salvage_row.proofs.fill_entries.Symbol as fill-def
 use Rattle.dss_salvage_row.proofs.fill_entries.Symbol.{name as #fill-entries}
 use Rattle.dss_salvage_row.proofs.fill_entries.Met as fill-thm
-use Rattle.dss_salvage_call.specs.Gathered.{Gathers, entriesIn, salvages-is}
-use Rattle.dss_salvage_call.proofs.gather as gath
-use Rattle.dss_salvage_call.proofs.gather.Symbol as gath-def
-use Rattle.dss_salvage_call.proofs.gather.Symbol.{name as #gather}
-use Rattle.dss_salvage_call.proofs.gather.Met as gath-thm
+use Rattle.dss_salvage_call.proofs.GatheredEntries.{salvages-is}
+use Rattle.dss_salvage_call.proofs.gather_entries as gath
+use Rattle.dss_salvage_call.proofs.gather_entries.Symbol as gath-def
+use Rattle.dss_salvage_call.proofs.gather_entries.Symbol.{name as #gather-entries}
+use Rattle.dss_salvage_call.proofs.gather_entries.Met as gath-thm
 use Rattle.dss_salvage_call.proofs.entries_in as count
 use Rattle.dss_salvage_call.proofs.entries_in.Symbol as count-def
 use Rattle.dss_salvage_call.proofs.entries_in.Symbol.{name as #entries-in}
@@ -118,7 +119,7 @@ module _ {M : Type 1} (𝓤 : URA M) (H : Heap 𝓤) (A : Atoms 𝓤) (W : Given
   abbrev RowOwn : Fml
   RowOwn = MutSlice (named 1) κ″ R.the-row .own y (yval ∷ [])
 
-  -- ---- `gather`
+  -- ---- `gather_entries`
   abbrev gather-args : RefT (List ℕ) × (RefT (List ℕ) × (ℕ × Unit {0}))
   gather-args = (s, (x, (length ys, tt)))
 
@@ -170,10 +171,10 @@ module _ {M : Type 1} (𝓤 : URA M) (H : Heap 𝓤) (A : Atoms 𝓤) (W : Given
       nothing ! $ move ! (4 ∷ 0 ∷ []) $ join ! $ move ! (3 ∷ 0 ∷ []) $ join ! $ use2 W (raw (FillEntries 𝓤 H A mem run .pre (to-fill n v))) (asked-fill n v) $ frame ! $ done !
 
   abbrev Filled : ℕ → List SalvageEntry → Type 0
-  Filled n ws = ws ≡ splice ys 0 (recordsFrom (length ys) (s .now) (startsAt 0 n))
+  Filled n ws = ws ≡ splice ys 0 (entryRecordsFrom (length ys) (s .now) (startsAt 0 n))
 
   -- ---- the exit
-  exits : (f : Salvaged) (u : Val) (zs : List ℕ) (ws : List SalvageEntry) → Salvages (s .now) xs ys f zs ws → length zs ≡ length xs → length ws ≡ length ys → Is G.the-row f (u ∷ [])
+  exits : (f : Salvaged) (u : Val) (zs : List ℕ) (ws : List SalvageEntry) → SalvagesRun (s .now) xs ys f zs ws → length zs ≡ length xs → length ws ≡ length ys → Is G.the-row f (u ∷ [])
       → ent 𝓤 (⋆ 𝓤 H A (‵ (flft κ q) ∷ ‵ (flft κ′ q′) ∷ ‵ (flft κ″ q″) ∷ ‵ Own ∷ ‵ (finally u8 γ zs) ∷ ‵ (finally R.the-row γ′ ws) ∷ [])) (Post u)
   exits f u zs ws e l m is =
       qed W (‵ (flft κ q) ∷ ‵ (flft κ′ q′) ∷ ‵ (flft κ″ q″) ∷ ‵ Own ∷ ‵ (finally u8 γ zs) ∷ ‵ (finally R.the-row γ′ ws) ∷ []) ∵
@@ -184,7 +185,7 @@ module _ {M : Type 1} (𝓤 : URA M) (H : Heap 𝓤) (A : Atoms 𝓤) (W : Given
       frame ! $
       owned ! G.the-row (Is G.the-row) (EL.makes G.the-type G′.the-plain 𝓤 H A) f _ is $ done !
 
-  module _ (C : Calls 𝓤 H) (Λ : Loops 𝓤 H) (fm : FmC 𝓤 H (W .laws) C) (known-gather : Triple 𝓤 (C #gather) (Gather 𝓤 H A mem run)) (known-count : Triple 𝓤 (C #entries-in) (EntriesIn 𝓤 H A mem run)) (known-fill : Triple 𝓤 (C #fill-entries) (FillEntries 𝓤 H A mem run)) where
+  module _ (C : Calls 𝓤 H) (Λ : Loops 𝓤 H) (fm : FmC 𝓤 H (W .laws) C) (known-gather : Triple 𝓤 (C #gather-entries) (Gather 𝓤 H A mem run)) (known-count : Triple 𝓤 (C #entries-in) (EntriesIn 𝓤 H A mem run)) (known-fill : Triple 𝓤 (C #fill-entries) (FillEntries 𝓤 H A mem run)) where
     walk : Room u8 (length (s .now)) → Room u8 (length xs) → Room R.the-row (length ys)
         → ent 𝓤 (onEntry 𝓤 H A all.signature (κ, (κ′, (κ″, tt))) (q, (q′, (q″, tt))) a vs) (WpFn 𝓤 H C Λ code.function (sval ∷ xval ∷ yval ∷ []) Post)
     walk sroom room rows =
@@ -198,13 +199,13 @@ module _ {M : Type 1} (𝓤 : URA M) (H : Heap 𝓤) (A : Atoms 𝓤) (W : Given
         assigns ! (addr ! (from ! (fld ! refl (hop ! (look-in ! 22 (sub ! 0 refl (whole !))) (stop !))))) (from ! (stop !)) (init ! 16 refl (tt, tt)) $
         assigns ! (agg ! (and-then ! (load ! (from ! (stop !)) (look ! 16 refl)) (and-then ! (load ! (from ! (fld ! refl (stop !))) (look-in ! 22 (sub ! 1 refl (whole !)))) (no-more !)))) (from ! (stop !)) (init ! 14 refl (tt, (tt, (record { fits = room .0 }, tt)))) $
         assigns ! (of-opd ! (load ! (from ! (fld ! refl (stop !))) (look-in ! 20 (sub ! 1 refl (whole !))))) (from ! (stop !)) (init ! 12 refl (tt, record { fits = rows .0 })) $
-        -- `gather`
+        -- `gather_entries`
         move ! (5 ∷ 4 ∷ 2 ∷ 1 ∷ []) $ group ! 4 $ use1 W (raw (Gather 𝓤 H A mem run .pre to-gather) ⊛ ‵ Own) (asks-gather (rows .0)) $ split ! $
         -- [what it asks; what the run owns; what the row owns; the row's token; _10; …]
         calls-at ! fm (Gather 𝓤 H A mem run) known-gather to-gather (and-then ! (load ! (from ! (stop !)) (look ! 22 refl)) (and-then ! (load ! (from ! (stop !)) (look ! 12 refl)) (and-then ! (load ! (from ! (stop !)) (look ! 10 refl)) (no-more !)))) (λ u.
         use1 W (later (some (λ (f : Salvaged). ((‵ (flft κ q) ⊛ ‵ (flft κ′ q′) ⊛ ‵ ftrue) ⊛ ‵ (G.the-row .own f (u ∷ []))) ⊛ raw (ensured 𝓤 H A gath.ended (gath.clauses 𝓤 H A mem run) (κ, (κ′, tt)) gather-args tt f)))) (id⊢ 𝓤 _) $ await ! tt $ pick ! (λ f.
-        split ! $ move ! (1 ∷ []) $ use1 W (some (λ (zs : Unit {0} × (List ℕ × (Unit {0} × Unit {0}))). ‵ (lasts gath.ended (κ, (κ′, tt)) gather-args zs) ⊛ raw (fact 𝓤 (Gathers (s .now) xs (length ys) f (zs .1 .0))))) (id⊢ 𝓤 _) $ pick ! (λ zs.
-        split ! $ move ! (1 ∷ []) $ heard ! (Gathers (s .now) xs (length ys) f (zs .1 .0)) (λ e. fsplit ! $ drop ! $ fsplit ! $ fsplit ! $ move ! (1 ∷ []) $ feqL ! (λ l. move ! (1 ∷ []) $ drop ! $
+        split ! $ move ! (1 ∷ []) $ use1 W (some (λ (zs : Unit {0} × (List ℕ × (Unit {0} × Unit {0}))). ‵ (lasts gath.ended (κ, (κ′, tt)) gather-args zs) ⊛ raw (fact 𝓤 (GathersEntries (s .now) xs (length ys) f (zs .1 .0))))) (id⊢ 𝓤 _) $ pick ! (λ zs.
+        split ! $ move ! (1 ∷ []) $ heard ! (GathersEntries (s .now) xs (length ys) f (zs .1 .0)) (λ e. fsplit ! $ drop ! $ fsplit ! $ fsplit ! $ move ! (1 ∷ []) $ feqL ! (λ l. move ! (1 ∷ []) $ drop ! $
         -- [the room's last list; the tokens and the result; what the run owns; what the row owns; the row's token; _10; …]
         move ! (1 ∷ []) $ split ! $ split ! $ move ! (1 ∷ []) $ split ! $ move ! (1 ∷ []) $ drop ! $ move ! (2 ∷ []) $
         -- [the result; the room's token; the run's; the room's last list; what the run owns; what the row owns; the row's token; _10; …]
@@ -235,7 +236,7 @@ module _ {M : Type 1} (𝓤 : URA M) (H : Heap 𝓤) (A : Atoms 𝓤) (W : Given
         move ! (26 ∷ 27 ∷ []) $ free1 ! $ move ! (24 ∷ 25 ∷ []) $ free1 ! $ move ! (22 ∷ 23 ∷ []) $ free1 ! $ move ! (20 ∷ 21 ∷ []) $ free1 ! $ move ! (18 ∷ 19 ∷ []) $ free1 ! $ move ! (16 ∷ 17 ∷ []) $ free1 ! $ move ! (14 ∷ 15 ∷ []) $ free1 ! $ move ! (12 ∷ 13 ∷ []) $ free1 ! $ move ! (10 ∷ 11 ∷ []) $ free1 ! $ move ! (8 ∷ 9 ∷ []) $ free1 ! $ move ! (6 ∷ 7 ∷ []) $ free1 ! $ free0 ! $
         keep ! (1 ∷ 4 ∷ 0 ∷ 3 ∷ 5 ∷ 2 ∷ []) $ by ! (exits f u (zs .1 .0) (ws .1 .1 .1 .0) (salvages-is (s .now) xs ys f (zs .1 .0) (ws .1 .1 .1 .0) n e c g) l m is))))))))))))))))))))))))))))
 
-module _ {M : Type 1} (𝓤 : URA M) (H : Heap 𝓤) (A : Atoms 𝓤) (W : Given 𝓤 H A) (mem : Memory → SProp 𝓤) (run : Routine → Fun 𝓤) (𝓣 : Tables 𝓤 H) (known-gather : Triple 𝓤 (𝓣 .C #gather) (Gather 𝓤 H A mem run)) (known-count : Triple 𝓤 (𝓣 .C #entries-in) (EntriesIn 𝓤 H A mem run)) (known-fill : Triple 𝓤 (𝓣 .C #fill-entries) (FillEntries 𝓤 H A mem run)) where
+module _ {M : Type 1} (𝓤 : URA M) (H : Heap 𝓤) (A : Atoms 𝓤) (W : Given 𝓤 H A) (mem : Memory → SProp 𝓤) (run : Routine → Fun 𝓤) (𝓣 : Tables 𝓤 H) (known-gather : Triple 𝓤 (𝓣 .C #gather-entries) (Gather 𝓤 H A mem run)) (known-count : Triple 𝓤 (𝓣 .C #entries-in) (EntriesIn 𝓤 H A mem run)) (known-fill : Triple 𝓤 (𝓣 .C #fill-entries) (FillEntries 𝓤 H A mem run)) where
   all-walks : Walks 𝓤 H A all.ended stayed (WpFn 𝓤 H (𝓣 .C) (𝓣 .Λ) code.function) (all.clauses 𝓤 H A mem run)
   all-walks = walked 𝓤 H A all.ended stayed (all.clauses 𝓤 H A mem run) (WpFn 𝓤 H (𝓣 .C) (𝓣 .Λ) code.function)
       (λ κs. (slice-vals, (slice-vals, (slice-vals, tt))))
@@ -256,6 +257,6 @@ salvage-spec 𝓤 H 𝓜 𝓖 𝓡 =
     entered 𝓤 H (tripleOf 𝓤 H (𝓖 .A) all.signature (all.spec 𝓤 H (𝓖 .A) (𝓜 .mem) (𝓡 .run)))
     (tables 𝓤 H 𝓜 𝓡 code.env .C) (tables 𝓤 H 𝓜 𝓡 code.env .Λ) #salvage code.function (code.unfolded 𝓤 H 𝓜 𝓡)
     (all-meets 𝓤 H (𝓖 .A) (givenOf 𝓤 H 𝓜 𝓖) (𝓜 .mem) (𝓡 .run) (tablesOf 𝓤 H 𝓜 (tables 𝓤 H 𝓜 𝓡 code.env))
-    (cited 𝓤 H (Gather 𝓤 H (𝓖 .A) (𝓜 .mem) (𝓡 .run)) 𝓜 𝓡 code.env #gather gath-def.routine code.calls-dss-salvage-call·gather (gath-thm.met 𝓤 H 𝓜 𝓖 𝓡))
+    (cited 𝓤 H (Gather 𝓤 H (𝓖 .A) (𝓜 .mem) (𝓡 .run)) 𝓜 𝓡 code.env #gather-entries gath-def.routine code.calls-dss-salvage-call·gather-entries (gath-thm.met 𝓤 H 𝓜 𝓖 𝓡))
     (cited 𝓤 H (EntriesIn 𝓤 H (𝓖 .A) (𝓜 .mem) (𝓡 .run)) 𝓜 𝓡 code.env #entries-in count-def.routine code.calls-dss-salvage-call·entries-in (count-thm.met 𝓤 H 𝓜 𝓖 𝓡))
     (cited 𝓤 H (FillEntries 𝓤 H (𝓖 .A) (𝓜 .mem) (𝓡 .run)) 𝓜 𝓡 code.env #fill-entries fill-def.routine code.calls-dss-salvage-row·fill-entries (fill-thm.met 𝓤 H 𝓜 𝓖 𝓡)))

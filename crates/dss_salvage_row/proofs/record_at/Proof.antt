@@ -2,83 +2,46 @@
 use native.Mathlib.Omega.{arith}
 use mathlib.Core.Path.{sym, _∙_}
 use borrow.Author.Needs.{needs}
-use Rattle.dss_salvage.specs.Stepping.{OnFrame, on-frame}
-use Rattle.dss_salvage_row.specs.EntryLaws.{record-none, record-step}
+use Rattle.dss_salvage.proofs.SalvageStepping.{OnFrame, on-frame}
+use Rattle.dss_salvage_row.proofs.EntryRowLaws.{record-none, record-step}
 use Rattle.dss_salvage_row.proofs.record_at.Statement.{statement}
 use Rattle.dss_salvage_row.proofs.record_at.Tie as tie
 
 returns : tie.Need-returns
 returns c = sym (record-none _ _ (c .if1 .taken))
 
-entry-at-requires : tie.Need-entry-at-requires
-entry-at-requires c κs = search needs
-
-enum-told : tie.Need-enum-told
-enum-told c = search needs
-
-enum-known-refused : tie.Need-enum-known-refused
-enum-known-refused c = search needs
-
-enum-known-refused-2 : tie.Need-enum-known-refused-2
-enum-known-refused-2 c = search needs
-
-sub-t21 : tie.Need-sub-t21
-sub-t21 c = search needs
-
-enum-known-measure : tie.Need-enum-known-measure
-enum-known-measure c = search needs
-
-record-requires : tie.Need-record-requires
-record-requires c κs = search needs
-
 -- the frame that was found
 framed : (c : tie.After-measure)
     → (let a = c .before .before .before .before .before .args in
     OnFrame (a .run .now) (a .place .at) (c .measure .given .0 .0))
-framed c = on-frame _ _ _ (sym (c .before .before .entry-at .ensures) ∙ c .measure .given .1)
+framed c = on-frame _ _ _ (sym (c .before .before .step-at .ensures) ∙ c .measure .given .1)
 
 add-t23 : tie.Need-add-t23
 add-t23 c = let w = framed (c .before .before .before) .measured in omega (arith, w)
 
-sub-t24 : tie.Need-sub-t24
-sub-t24 c = search needs
-
 returns-2 : tie.Need-returns-2
 returns-2 c =
     let w = c .before .before in
-    sym (record-step _ _ _ (w .before .if1 .left) (sym (w .entry-at .ensures) ∙ c .enum-told .given .1))
+    sym (record-step _ _ _ (w .before .if1 .left) (sym (w .step-at .ensures) ∙ c .enum-told .given .1))
 
 returns-3 : tie.Need-returns-3
 returns-3 c =
     let w = c .before .before .before in
-    sym (record-step _ _ _ (w .before .if1 .left) (sym (w .entry-at .ensures) ∙ c .before .refused .given .1))
+    sym (record-step _ _ _ (w .before .if1 .left) (sym (w .step-at .ensures) ∙ c .before .refused .given .1))
 
 returns-4 : tie.Need-returns-4
 returns-4 c =
     let w = c .before .before .before in
-    sym (record-step _ _ _ (w .before .if1 .left) (sym (w .entry-at .ensures) ∙ c .before .refused2 .given .1))
+    sym (record-step _ _ _ (w .before .if1 .left) (sym (w .step-at .ensures) ∙ c .before .refused2 .given .1))
 
 returns-5 : tie.Need-returns-5
 returns-5 c =
     let m = c .before .before .before in
     let w = m .before .before in
-    rw (c .before .record .ensures) (sym (record-step _ _ _ (w .before .if1 .left) (sym (w .entry-at .ensures) ∙ m .measure .given .1)))
+    rw (c .before .record .ensures) (sym (record-step _ _ _ (w .before .if1 .left) (sym (w .step-at .ensures) ∙ m .measure .given .1)))
 
 pub record-at-spec : {M : Type 1} → statement M
 record-at-spec =
     tie.close
-    (tie.spec
-    returns
-    entry-at-requires
-    enum-told
-    enum-known-refused
-    enum-known-refused-2
-    sub-t21
-    enum-known-measure
-    record-requires
-    add-t23
-    sub-t24
-    returns-2
-    returns-3
-    returns-4
-    returns-5)
+    (tie.spec returns (λ c κs. search needs) (λ c. search needs) (λ c. search needs) (λ c. search needs) (λ c. search needs)
+    (λ c. search needs) (λ c κs. search needs) add-t23 (λ c. search needs) returns-2 returns-3 returns-4 returns-5)

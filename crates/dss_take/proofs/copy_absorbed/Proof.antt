@@ -8,21 +8,21 @@ use mathlib.Core.List.{List}
 use lib.ListN.{length, take, drop}
 use borrow.Author.Needs.{needs}
 use Rattle.wire.specs.Bytes.{splice}
-use Rattle.wire.specs.Splice.{splice-length}
+use Rattle.wire.proofs.Splicing.{splice-length}
 use Rattle.dss_frame.specs.Reading.{look, startsExtended}
 use Rattle.dss_measure.specs.declared.Look.{Look}
 use Rattle.dss_measure.specs.declared.Look.the-variants.{Finished}
-use Rattle.dss_measure.specs.Measure.{lookedOf}
+use Rattle.dss_measure.specs.inner.Walking.{lookedOf}
 use Rattle.dss_take.specs.Take.{payloadAt}
-use Rattle.dss_take.specs.Payloads.{payload-fits, Next, Laying, laying-none, laying-on, laying-all, laying-room, laying-more}
-use Rattle.dss_take.specs.Taking.{Taking, taking-first, taking-finished, taking-refused, taking-absorbs}
+use Rattle.dss_take.proofs.PayloadLaws.{payload-fits, Next, LayingChunks, laying-none, laying-on, laying-all, laying-room, laying-more}
+use Rattle.dss_take.proofs.TakingLaws.{TakingFrame, taking-first, taking-finished, taking-refused, taking-absorbs}
 use Rattle.dss_take.proofs.copy_absorbed.Statement.{statement}
 use Rattle.dss_take.proofs.copy_absorbed.Tie as tie
 
 abbrev Inv-loop : tie.InvT-loop
 Inv-loop rules run at first need room₀ seg-len end₀ fill₀ room end fill =
-    Taking rules run at first end fill
-    × Laying (payloadAt rules run at) (splice room₀ fill₀ (drop fill₀ (payloadAt rules run at))) room fill
+    TakingFrame rules run at first end fill
+    × LayingChunks (payloadAt rules run at) (splice room₀ fill₀ (drop fill₀ (payloadAt rules run at))) room fill
 
 abbrev μ-loop : tie.MeasureT-loop
 μ-loop rules run at first need room₀ seg-len end₀ fill₀ room end fill = length run - end
@@ -36,7 +36,7 @@ module _ (c : tie.Start Inv-loop μ-loop) where
   fits : length payload ≤ length (c .args .room .now)
   fits = payload-fits (c .pre .0)
 
-  none : Laying payload (splice (c .args .room .now) 0 payload) (c .args .room .now) 0
+  none : LayingChunks payload (splice (c .args .room .now) 0 payload) (c .args .room .now) 0
   none = laying-none payload (c .args .room .now) fits
 
 module _ (c : tie.After-u16-at Inv-loop μ-loop) where
@@ -44,13 +44,10 @@ module _ (c : tie.After-u16-at Inv-loop μ-loop) where
   raw = c .u16-at .result
 
   first : (let a = c .before .before .before .args in
-      Next (a .run .now) (payload (c .before .before .before)) 0 (a .at + 6) (a .at + raw) × Taking (a .rules) (a .run .now) (a .at) (a .first) (a .at + raw) (raw - 6))
+      Next (a .run .now) (payload (c .before .before .before)) 0 (a .at + 6) (a .at + raw) × TakingFrame (a .rules) (a .run .now) (a .at) (a .first) (a .at + raw) (raw - 6))
   first =
       let s = c .before .before .before in
       taking-first (s .pre .0) (s .pre .1) (c .u16-at .ensures) (s .pre .2)
-
-u16-at-requires : tie.Need-u16-at-requires Inv-loop μ-loop
-u16-at-requires c κs = search needs
 
 cast-seg-len : tie.Need-cast-seg-len Inv-loop μ-loop
 cast-seg-len c = omega arith
@@ -76,7 +73,7 @@ module _ (c : tie.After-slice-known2 Inv-loop μ-loop) where
   abbrev size : ℕ
   size = raw (c .before .before .before .before) - 6
 
-  first-laid : (let s = c .before .before .before .before .before .before .before in Laying (payload s) (splice (s .args .room .now) 0 (payload s)) behind size)
+  first-laid : (let s = c .before .before .before .before .before .before .before in LayingChunks (payload s) (splice (s .args .room .now) 0 (payload s)) behind size)
   first-laid =
       let u = c .before .before .before .before in
       laying-more (none (u .before .before .before)) (first u .0) _ size (c .before .before .copy-part .ensures) (omega (arith, first u .0 .order))
@@ -88,18 +85,6 @@ loop-holds c = (first (c .before .before .before .before) .1, laying-on (first-l
 
 starts-extended-requires : tie.Need-starts-extended-requires Inv-loop μ-loop
 starts-extended-requires c κs = omega (arith, c .before .before .loop .inv .1 .few, c .before .before .loop .inv .1 .fits)
-
-look-behind-requires : tie.Need-look-behind-requires Inv-loop μ-loop
-look-behind-requires c κs = search needs
-
-enum-told : tie.Need-enum-told Inv-loop μ-loop
-enum-told c = search needs
-
-enum-told-2 : tie.Need-enum-told-2 Inv-loop μ-loop
-enum-told-2 c = search needs
-
-enum-known-dropped : tie.Need-enum-known-dropped Inv-loop μ-loop
-enum-known-dropped c = search needs
 
 module _ (c : tie.After-look-behind Inv-loop μ-loop) where
   abbrev start : tie.Start Inv-loop μ-loop
@@ -150,7 +135,7 @@ module _ (c : tie.After-dropped Inv-loop μ-loop) where
   next = c .dropped .given .0 .1 .0
 
   absorbed : (let s = start (c .before .before) in
-      Next (s .args .run .now) (payload s) (at-loop .loop .fill) from next × Taking (s .args .rules) (s .args .run .now) (s .args .at) (s .args .first) next (at-loop .loop .fill + (next - from)))
+      Next (s .args .run .now) (payload s) (at-loop .loop .fill) from next × TakingFrame (s .args .rules) (s .args .run .now) (s .args .at) (s .args .first) next (at-loop .loop .fill + (next - from)))
   absorbed =
       let b = c .before .before in
       taking-absorbs (start b .pre .0) (at-loop .loop .inv .0) (extended b) (said b _ (c .dropped .given .1))
@@ -171,7 +156,7 @@ absorbed-laid : (c : tie.After-slice-known3 Inv-loop μ-loop)
     → (let d = c .before .before .before .before .before in
     let m = at-loop d in
     let s = start (d .before .before) in
-    Laying (payload s) (splice (behind (m .before)) (size (m .before)) (drop (size (m .before)) (payload s))) (c .before .before .copy-part2 .last .1 .1 .1 .0) (m .loop .fill + (next d - from d)))
+    LayingChunks (payload s) (splice (behind (m .before)) (size (m .before)) (drop (size (m .before)) (payload s))) (c .before .before .copy-part2 .last .1 .1 .1 .0) (m .loop .fill + (next d - from d)))
 absorbed-laid c =
     let d = c .before .before .before .before .before in
     laying-more (at-loop d .loop .inv .1) (absorbed d .0) _ _ (c .before .before .copy-part2 .ensures) refl
@@ -208,31 +193,6 @@ same-length-3 c =
 pub copy-absorbed-spec : {M : Type 1} → statement M
 copy-absorbed-spec =
     tie.close
-    (tie.spec
-    Inv-loop
-    μ-loop
-    u16-at-requires
-    cast-seg-len
-    add-end
-    sub-fill
-    add-copy-part
-    copy-part-requires
-    loop-holds
-    starts-extended-requires
-    look-behind-requires
-    enum-told
-    same-length
-    returns
-    enum-told-2
-    same-length-2
-    returns-2
-    enum-known-dropped
-    add-from
-    add-from-2
-    copy-part-requires-2
-    sub-fill-2
-    add-fill
-    loop-less
-    loop-again
-    same-length-3
-    returns-3)
+    (tie.spec Inv-loop μ-loop (λ c κs. search needs) cast-seg-len add-end sub-fill add-copy-part copy-part-requires loop-holds
+    starts-extended-requires (λ c κs. search needs) (λ c. search needs) same-length returns (λ c. search needs) same-length-2 returns-2
+    (λ c. search needs) add-from add-from-2 copy-part-requires-2 sub-fill-2 add-fill loop-less loop-again same-length-3 returns-3)

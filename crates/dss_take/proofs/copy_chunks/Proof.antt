@@ -7,20 +7,20 @@ use mathlib.Core.List.{List}
 use lib.ListN.{length, drop}
 use borrow.Author.Needs.{needs}
 use Rattle.wire.specs.Bytes.{splice}
-use Rattle.wire.specs.Splice.{splice-length}
+use Rattle.wire.proofs.Splicing.{splice-length}
 use Rattle.dss_head.specs.declared.Chunk.{Chunk}
 use Rattle.dss_head.specs.declared.Chunk.the-variants.{Dead, Last, Full}
 use Rattle.dss_frame.specs.Rules.{chunkUnder}
 use Rattle.dss_take.specs.Take.{payloadAt}
-use Rattle.dss_take.specs.Payloads.{payload-fits, Next, Laying, laying-none, laying-on, laying-last, laying-room, laying-more}
-use Rattle.dss_take.specs.Chunks.{Walking, walking-dead, last-left, last-next, full-next, chunks-first}
+use Rattle.dss_take.proofs.PayloadLaws.{payload-fits, Next, LayingChunks, laying-none, laying-on, laying-last, laying-room, laying-more}
+use Rattle.dss_take.proofs.TakenChunks.{WalkingChunks, walking-dead, last-left, last-next, full-next, chunks-first}
 use Rattle.dss_take.proofs.copy_chunks.Statement.{statement}
 use Rattle.dss_take.proofs.copy_chunks.Tie as tie
 
 abbrev Inv-loop : tie.InvT-loop
 Inv-loop rules run at room₀ from₀ fill₀ room from fill =
-    Walking rules run (payloadAt rules run at) from fill
-    × Laying (payloadAt rules run at) (splice room₀ fill₀ (drop fill₀ (payloadAt rules run at))) room fill
+    WalkingChunks rules run (payloadAt rules run at) from fill
+    × LayingChunks (payloadAt rules run at) (splice room₀ fill₀ (drop fill₀ (payloadAt rules run at))) room fill
 
 abbrev μ-loop : tie.MeasureT-loop
 μ-loop rules run at room₀ from₀ fill₀ room from fill = length run - from
@@ -38,17 +38,17 @@ module _ (c : tie.Start Inv-loop μ-loop) where
   fits : length payload ≤ length (c .args .room .now)
   fits = payload-fits (c .pre .0)
 
-  first : Next (c .args .run .now) payload 0 (c .args .at + 6) (c .args .at + 32767) × Walking (c .args .rules) (c .args .run .now) payload (c .args .at + 32767) 32761
+  first : Next (c .args .run .now) payload 0 (c .args .at + 6) (c .args .at + 32767) × WalkingChunks (c .args .rules) (c .args .run .now) payload (c .args .at + 32767) 32761
   first = chunks-first (c .pre .0) (c .pre .1)
 
-  none : Laying payload end (c .args .room .now) 0
+  none : LayingChunks payload end (c .args .room .now) 0
   none = laying-none payload (c .args .room .now) fits
 
 module _ (c : tie.After-slice-known2 Inv-loop μ-loop) where
   abbrev behind : List ℕ
   behind = c .before .before .copy-part .last .1 .1 .1 .0
 
-  first-laid : (let s = c .before .before .before .before .before .before in Laying (payload s) (end s) behind 32761)
+  first-laid : (let s = c .before .before .before .before .before .before in LayingChunks (payload s) (end s) behind 32761)
   first-laid =
       let s = c .before .before .before .before .before .before in
       laying-more (none s) (first s .0) _ 32761 (c .before .before .copy-part .ensures) (omega arith)
@@ -68,21 +68,6 @@ loop-holds : tie.Need-loop-holds Inv-loop μ-loop
 loop-holds c = (first (c .before .before .before .before .before .before) .1, laying-on (first-laid c))
 
 -- ---- a turn
-
-u16-at-requires : tie.Need-u16-at-requires Inv-loop μ-loop
-u16-at-requires c κs = search needs
-
-chunk-under-requires : tie.Need-chunk-under-requires Inv-loop μ-loop
-chunk-under-requires c κs = search needs
-
-enum-told : tie.Need-enum-told Inv-loop μ-loop
-enum-told c = search needs
-
-enum-told-2 : tie.Need-enum-told-2 Inv-loop μ-loop
-enum-told-2 c = search needs
-
-enum-told-3 : tie.Need-enum-told-3 Inv-loop μ-loop
-enum-told-3 c = search needs
 
 -- what the length says
 told : (c : tie.After-chunk-under Inv-loop μ-loop) (d : Chunk) → c .chunk-under .result ≡ d
@@ -141,7 +126,7 @@ same-length-2 c =
 full : (c : tie.After-enum-told3 Inv-loop μ-loop)
     → (let m = c .before .before .before .before in
     let s = m .before .before .before .before .before .before .before in
-    Next (s .args .run .now) (payload s) (m .loop .fill) (m .loop .from + 2) (m .loop .from + 32767) × Walking (s .args .rules) (s .args .run .now) (payload s) (m .loop .from + 32767) (m .loop .fill + 32765))
+    Next (s .args .run .now) (payload s) (m .loop .fill) (m .loop .from + 2) (m .loop .from + 32767) × WalkingChunks (s .args .rules) (s .args .run .now) (payload s) (m .loop .from + 32767) (m .loop .fill + 32765))
 full c =
     let u = c .before .before in
     full-next (u .before .before .loop .inv .0) (u .before .u16-at .ensures) (told u Full (c .enum-told3 .given .1))
@@ -161,7 +146,7 @@ copy-part-requires-3 c κs =
 full-laid : (c : tie.After-slice-known4 Inv-loop μ-loop)
     → (let m = c .before .before .before .before .before .before .before .before in
     let s = m .before .before .before .before .before .before .before in
-    Laying (payload s) (splice (behind (m .before)) 32761 (drop 32761 (payload s))) (c .before .before .copy-part3 .last .1 .1 .1 .0) (m .loop .fill + 32765))
+    LayingChunks (payload s) (splice (behind (m .before)) 32761 (drop 32761 (payload s))) (c .before .before .copy-part3 .last .1 .1 .1 .0) (m .loop .fill + 32765))
 full-laid c =
     let m = c .before .before .before .before .before .before .before .before in
     laying-more (m .loop .inv .1) (full (c .before .before .before .before) .0) _ (m .loop .fill + 32765) (c .before .before .copy-part3 .ensures) (omega arith)
@@ -180,29 +165,6 @@ loop-again c = (full (c .before .before .before .before) .1, full-laid c)
 pub copy-chunks-spec : {M : Type 1} → statement M
 copy-chunks-spec =
     tie.close
-    (tie.spec
-    Inv-loop
-    μ-loop
-    add-from
-    add-copy-part
-    copy-part-requires
-    loop-holds
-    u16-at-requires
-    chunk-under-requires
-    enum-told
-    same-length
-    returns
-    enum-told-2
-    cast-end
-    add-end
-    add-copy-part-2
-    copy-part-requires-2
-    same-length-2
-    returns-2
-    enum-told-3
-    add-next
-    add-copy-part-3
-    copy-part-requires-3
-    add-fill
-    loop-less
-    loop-again)
+    (tie.spec Inv-loop μ-loop add-from add-copy-part copy-part-requires loop-holds (λ c κs. search needs) (λ c κs. search needs)
+    (λ c. search needs) same-length returns (λ c. search needs) cast-end add-end add-copy-part-2 copy-part-requires-2 same-length-2
+    returns-2 (λ c. search needs) add-next add-copy-part-3 copy-part-requires-3 add-fill loop-less loop-again)

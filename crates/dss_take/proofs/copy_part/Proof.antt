@@ -3,25 +3,10 @@ use native.Mathlib.Omega.{arith}
 use mathlib.Core.Path.{_∙_}
 use borrow.Author.Needs.{needs}
 use Rattle.wire.specs.Bytes.{part}
-use Rattle.wire.specs.Laws.{part-length}
-use Rattle.wire.specs.Splice.{laid-fits}
+use Rattle.wire.proofs.WireLaws.{part-length}
+use Rattle.wire.proofs.Splicing.{laid-fits}
 use Rattle.dss_take.proofs.copy_part.Statement.{statement}
 use Rattle.dss_take.proofs.copy_part.Tie as tie
-
-sub-lay-at : tie.Need-sub-lay-at
-sub-lay-at c = search needs
-
-part-lay-at-start : tie.Need-part-lay-at-start
-part-lay-at-start c = search needs
-
-part-lay-at-end : tie.Need-part-lay-at-end
-part-lay-at-end c = search needs
-
-lay-at-requires : tie.Need-lay-at-requires
-lay-at-requires c κs = search needs
-
-same-length : tie.Need-same-length
-same-length c = search needs
 
 returns : tie.Need-returns
 returns c =
@@ -33,10 +18,4 @@ returns c =
 pub copy-part-spec : {M : Type 1} → statement M
 copy-part-spec =
     tie.close
-    (tie.spec
-    sub-lay-at
-    part-lay-at-start
-    part-lay-at-end
-    lay-at-requires
-    same-length
-    returns)
+    (tie.spec (λ c. search needs) (λ c. search needs) (λ c. search needs) (λ c κs. search needs) (λ c. search needs) returns)

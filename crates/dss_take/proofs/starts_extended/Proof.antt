@@ -1,7 +1,7 @@
 -- `dss_take::starts_extended` meets its contract: of the room's first bytes there are at least four, and they start 80 04.
 use mathlib.Core.Path.{sym}
 use borrow.Author.Needs.{needs}
-use Rattle.dss_take.specs.Taking.{extended-short, extended-read}
+use Rattle.dss_take.proofs.TakingLaws.{extended-short, extended-read}
 use Rattle.dss_take.proofs.starts_extended.Statement.{statement}
 use Rattle.dss_take.proofs.starts_extended.Tie as tie
 
@@ -10,13 +10,10 @@ returns c =
     let s = c .before .before in
     sym (extended-short (s .args .room .now) (s .args .fill) (s .pre) (c .if1 .taken))
 
-u16-at-requires : tie.Need-u16-at-requires
-u16-at-requires c κs = search needs
-
 returns-2 : tie.Need-returns-2
 returns-2 c =
     let s = c .before .before .before in
     sym (extended-read (s .args .room .now) (s .args .fill) (s .pre) (c .before .if1 .left) (c .u16-at .result) (c .u16-at .ensures))
 
 pub starts-extended-spec : {M : Type 1} → statement M
-starts-extended-spec = tie.close (tie.spec returns u16-at-requires returns-2)
+starts-extended-spec = tie.close (tie.spec returns (λ c κs. search needs) returns-2)

@@ -1,10 +1,10 @@
 -- `dss_take::take` meets its contract: each return is one of the laws of what taking answers, by what measuring answered.
-use native.Mathlib.Omega.{arith}
 use mathlib.Core.Path.{_≡_, sym, _∙_}
 use borrow.Author.Needs.{needs}
 use Rattle.dss_measure.specs.declared.Measured.{Measured}
 use Rattle.dss_measure.specs.Measure.{measuredAt}
-use Rattle.dss_take.specs.Answers.{Measures, measures, takes-refusal, takes-typed, takes-none, takes-fits, takes-size, takes-frame}
+use Rattle.dss_measure.proofs.Measures.{Measures, measures}
+use Rattle.dss_take.proofs.TakeAnswers.{takes-refusal, takes-typed, takes-short, takes-fits, takes-size, takes-frame}
 use Rattle.dss_take.proofs.take.Statement.{statement}
 use Rattle.dss_take.proofs.take.Tie as tie
 
@@ -16,17 +16,8 @@ told c m e = sym (c .measure .ensures) ∙ e
 measured : (c : tie.After-frame) → (let a = c .before .before .before .before .before .args in Measures (a .rules) (a .run .now) (a .at) (c .frame .given .0 .0))
 measured c = measures _ _ _ _ (told (c .before .before) _ (c .frame .given .1))
 
-measure-requires : tie.Need-measure-requires
-measure-requires c κs = search needs
-
-enum-known-refused : tie.Need-enum-known-refused
-enum-known-refused c = search needs
-
-enum-known-frame : tie.Need-enum-known-frame
-enum-known-frame c = search needs
-
 returns : tie.Need-returns
-returns c = takes-none (measured (c .before .before)) (c .if1 .taken) (omega arith)
+returns c = rw (c .no-room .ensures) (takes-short (measured (c .before .before .before)) (c .before .if1 .taken))
 
 copy-frame-requires : tie.Need-copy-frame-requires
 copy-frame-requires c κs =
@@ -36,9 +27,6 @@ copy-frame-requires c κs =
 returns-2 : tie.Need-returns-2
 returns-2 c = takes-refusal _ _ _ _ _ (told (c .before .before .before) _ (c .before .refused .given .1))
 
-same-length : tie.Need-same-length
-same-length c = search needs
-
 returns-3 : tie.Need-returns-3
 returns-3 c =
     let e = c .before .before .before .before .before in
@@ -47,12 +35,5 @@ returns-3 c =
 pub take-spec : {M : Type 1} → statement M
 take-spec =
     tie.close
-    (tie.spec
-    measure-requires
-    enum-known-refused
-    enum-known-frame
-    returns
-    copy-frame-requires
-    returns-2
-    same-length
-    returns-3)
+    (tie.spec (λ c κs. search needs) (λ c. search needs) (λ c. search needs) (λ c κs. search needs) returns copy-frame-requires returns-2
+    (λ c. search needs) returns-3)

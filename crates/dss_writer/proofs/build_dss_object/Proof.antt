@@ -3,21 +3,9 @@ use mathlib.Core.Bool.{false}
 use borrow.Author.Needs.{needs}
 use Rattle.dss_head.specs.declared.DssType.the-variants.{Object}
 use Rattle.dss_writer.specs.Writer.{sent}
-use Rattle.dss_writer.specs.Laying.{writes-lays}
+use Rattle.dss_writer.proofs.LayingLaws.{writes-lays}
 use Rattle.dss_writer.proofs.build_dss_object.Statement.{statement}
 use Rattle.dss_writer.proofs.build_dss_object.Tie as tie
-
-new-requires : tie.Need-new-requires
-new-requires c κs = search needs
-
-write-object-requires : tie.Need-write-object-requires
-write-object-requires c κs = search needs
-
-laid-requires : tie.Need-laid-requires
-laid-requires c κs = search needs
-
-same-length : tie.Need-same-length
-same-length c = search needs
 
 returns : tie.Need-returns
 returns c =
@@ -29,4 +17,5 @@ returns c =
 
 pub build-dss-object-spec : {M : Type 1} → statement M
 build-dss-object-spec =
-    tie.close (tie.spec new-requires write-object-requires laid-requires same-length returns)
+    tie.close
+    (tie.spec (λ c κs. search needs) (λ c κs. search needs) (λ c κs. search needs) (λ c. search needs) returns)

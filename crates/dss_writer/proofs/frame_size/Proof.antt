@@ -4,10 +4,10 @@ use native.Mathlib.Omega.{arith}
 use mathlib.Core.Path.{_≡_, sym, _∙_}
 use borrow.Author.Needs.{needs}
 use borrow.Author.Tests.{le-ltb}
-use Rattle.wire.specs.Laws.{pick-no}
+use Rattle.wire.proofs.WireLaws.{pick-no}
 use Rattle.answer.specs.Rooms.{capped}
 use Rattle.dss_frame.specs.Written.{frameSize}
-use Rattle.dss_writer.specs.Laying.{capped-same}
+use Rattle.dss_writer.proofs.LayingLaws.{capped-same}
 use Rattle.dss_writer.proofs.frame_size.Statement.{statement}
 use Rattle.dss_writer.proofs.frame_size.Tie as tie
 

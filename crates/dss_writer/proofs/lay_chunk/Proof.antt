@@ -2,28 +2,10 @@
 use native.Mathlib.Omega.{arith}
 use mathlib.Core.Path.{refl}
 use Rattle.wire.specs.Bytes.{two}
-use Rattle.wire.specs.Lent.{headed}
+use Rattle.wire.proofs.LentParts.{headed}
 use borrow.Author.Needs.{needs}
 use Rattle.dss_writer.proofs.lay_chunk.Statement.{statement}
 use Rattle.dss_writer.proofs.lay_chunk.Tie as tie
-
-put-u16-requires : tie.Need-put-u16-requires
-put-u16-requires c κs = search needs
-
-sub-copy : tie.Need-sub-copy
-sub-copy c = search needs
-
-part-copy-start : tie.Need-part-copy-start
-part-copy-start c = search needs
-
-part-copy-end : tie.Need-part-copy-end
-part-copy-end c = search needs
-
-copy-requires : tie.Need-copy-requires
-copy-requires c κs = search needs
-
-same-length : tie.Need-same-length
-same-length c = search needs
 
 returns : tie.Need-returns
 returns c =
@@ -33,11 +15,5 @@ returns c =
 pub lay-chunk-spec : {M : Type 1} → statement M
 lay-chunk-spec =
     tie.close
-    (tie.spec
-    put-u16-requires
-    sub-copy
-    part-copy-start
-    part-copy-end
-    copy-requires
-    same-length
-    returns)
+    (tie.spec (λ c κs. search needs) (λ c. search needs) (λ c. search needs) (λ c. search needs) (λ c κs. search needs)
+    (λ c. search needs) returns)

@@ -6,16 +6,16 @@ use mathlib.Core.List.{List, _++_}
 use lib.ListN.{length, take, drop, length-drop}
 use lib.Seq.{length-take-le}
 use Rattle.wire.specs.Bytes.{two, splice}
-use Rattle.wire.specs.Splice.{splice-length}
+use Rattle.wire.proofs.Splicing.{splice-length}
 use Rattle.dss_frame.specs.Written.{chunks}
-use Rattle.wire.specs.Lent.{tail, tail-drop, tail-length}
+use Rattle.wire.proofs.LentParts.{tail, tail-drop, tail-length}
 use borrow.Author.Needs.{needs}
-use Rattle.dss_writer.specs.Laying.{Chunked, chunked-none, chunked-length, chunk-room, chunked-more, last-room, chunked-last}
+use Rattle.dss_writer.proofs.LayingLaws.{ChunkedLaid, chunked-none, chunked-length, chunk-room, chunked-more, last-room, chunked-last}
 use Rattle.dss_writer.proofs.lay_chunks.Statement.{statement}
 use Rattle.dss_writer.proofs.lay_chunks.Tie as tie
 
 abbrev Inv-loop : tie.InvT-loop
-Inv-loop bytes room₀ from₀ at₀ room from at = Chunked bytes room₀ room from at
+Inv-loop bytes room₀ from₀ at₀ room from at = ChunkedLaid bytes room₀ room from at
 
 abbrev μ-loop : tie.MeasureT-loop
 μ-loop bytes room₀ from₀ at₀ room from at = length bytes - from
@@ -46,29 +46,11 @@ module _ (a : tie.At-loop Inv-loop μ-loop) where
 loop-holds : tie.Need-loop-holds Inv-loop μ-loop
 loop-holds c = chunked-none (c .before .before .args .bytes .now) (c .before .before .args .room .now)
 
-sub-loop : tie.Need-sub-loop Inv-loop μ-loop
-sub-loop c = search needs
-
-add-end : tie.Need-add-end Inv-loop μ-loop
-add-end c = search needs
-
-sub-lay-chunk : tie.Need-sub-lay-chunk Inv-loop μ-loop
-sub-lay-chunk c = search needs
-
-part-lay-chunk-start : tie.Need-part-lay-chunk-start Inv-loop μ-loop
-part-lay-chunk-start c = search needs
-
-part-lay-chunk-end : tie.Need-part-lay-chunk-end Inv-loop μ-loop
-part-lay-chunk-end c = search needs
-
 sub-lay-chunk-2 : tie.Need-sub-lay-chunk-2 Inv-loop μ-loop
 sub-lay-chunk-2 c = omega (arith, full (c .before .before) (c .before .loop-test .taken))
 
 part-lay-chunk-start-2 : tie.Need-part-lay-chunk-start-2 Inv-loop μ-loop
 part-lay-chunk-start-2 c = omega (arith, full (c .before .before) (c .before .loop-test .taken))
-
-part-lay-chunk-end-2 : tie.Need-part-lay-chunk-end-2 Inv-loop μ-loop
-part-lay-chunk-end-2 c = search needs
 
 lay-chunk-requires : tie.Need-lay-chunk-requires Inv-loop μ-loop
 lay-chunk-requires c κs =
@@ -85,9 +67,6 @@ add-at c =
     let a = c .before .before .before .before .before .before in
     omega (arith, full a (c .before .before .before .before .before .loop-test .taken), same a, a .before .before .before)
 
-loop-less : tie.Need-loop-less Inv-loop μ-loop
-loop-less c = search needs
-
 loop-again : tie.Need-loop-again Inv-loop μ-loop
 loop-again c =
     let a = c .before .before .before .before .before .before in
@@ -96,32 +75,11 @@ loop-again c =
     (c .before .before .before .before .before .loop-test .taken) (p .last .1 .1 .0)
     (p .ensures ∙ ap (λ (l : List ℕ). splice (tail (a .loop .room) (a .loop .at)) 0 (two 65535 ++ l)) (span (all a) (a .loop .from) 32765))
 
-sub-raw-length : tie.Need-sub-raw-length Inv-loop μ-loop
-sub-raw-length c = search needs
-
-add-raw-length : tie.Need-add-raw-length Inv-loop μ-loop
-add-raw-length c = search needs
-
-cast-raw-length : tie.Need-cast-raw-length Inv-loop μ-loop
-cast-raw-length c = search needs
-
-sub-lay-chunk-3 : tie.Need-sub-lay-chunk-3 Inv-loop μ-loop
-sub-lay-chunk-3 c = search needs
-
-part-lay-chunk-start-3 : tie.Need-part-lay-chunk-start-3 Inv-loop μ-loop
-part-lay-chunk-start-3 c = search needs
-
-part-lay-chunk-end-3 : tie.Need-part-lay-chunk-end-3 Inv-loop μ-loop
-part-lay-chunk-end-3 c = search needs
-
 sub-lay-chunk-4 : tie.Need-sub-lay-chunk-4 Inv-loop μ-loop
 sub-lay-chunk-4 c = omega (arith, final (c .before .before) (c .before .loop-test .left))
 
 part-lay-chunk-start-4 : tie.Need-part-lay-chunk-start-4 Inv-loop μ-loop
 part-lay-chunk-start-4 c = omega (arith, final (c .before .before) (c .before .loop-test .left))
-
-part-lay-chunk-end-4 : tie.Need-part-lay-chunk-end-4 Inv-loop μ-loop
-part-lay-chunk-end-4 c = search needs
 
 lay-chunk-requires-2 : tie.Need-lay-chunk-requires-2 Inv-loop μ-loop
 lay-chunk-requires-2 c κs =
@@ -147,31 +105,7 @@ returns c = laid-all c
 pub lay-chunks-spec : {M : Type 1} → statement M
 lay-chunks-spec =
     tie.close
-    (tie.spec
-    Inv-loop
-    μ-loop
-    loop-holds
-    sub-loop
-    add-end
-    sub-lay-chunk
-    part-lay-chunk-start
-    part-lay-chunk-end
-    sub-lay-chunk-2
-    part-lay-chunk-start-2
-    part-lay-chunk-end-2
-    lay-chunk-requires
-    add-at
-    loop-less
-    loop-again
-    sub-raw-length
-    add-raw-length
-    cast-raw-length
-    sub-lay-chunk-3
-    part-lay-chunk-start-3
-    part-lay-chunk-end-3
-    sub-lay-chunk-4
-    part-lay-chunk-start-4
-    part-lay-chunk-end-4
-    lay-chunk-requires-2
-    same-length
-    returns)
+    (tie.spec Inv-loop μ-loop loop-holds (λ c. search needs) (λ c. search needs) (λ c. search needs) (λ c. search needs)
+    (λ c. search needs) sub-lay-chunk-2 part-lay-chunk-start-2 (λ c. search needs) lay-chunk-requires add-at (λ c. search needs)
+    loop-again (λ c. search needs) (λ c. search needs) (λ c. search needs) (λ c. search needs) (λ c. search needs) (λ c. search needs)
+    sub-lay-chunk-4 part-lay-chunk-start-4 (λ c. search needs) lay-chunk-requires-2 same-length returns)

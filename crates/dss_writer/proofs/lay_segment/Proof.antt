@@ -6,7 +6,7 @@ use mathlib.Core.List.{List, [], _++_}
 use lib.ListN.{length}
 use borrow.Author.Needs.{needs}
 use Rattle.wire.specs.Bytes.{splice, laid}
-use Rattle.wire.specs.Splice.{splice-length, splice-splice, laid-fits}
+use Rattle.wire.proofs.Splicing.{splice-length, splice-splice, laid-fits}
 use Rattle.dss_head.specs.Heads.{headBytes}
 use Rattle.dss_frame.specs.Written.{headOf}
 use Rattle.dss_writer.specs.Writer.{sent}
@@ -21,15 +21,6 @@ behind r x y s t h e f =
     let z : length x ≡ 0 + length x = omega arith in
     f ∙ laid-fits s (length x) y (omega arith) ∙ ap₂ (λ (v : List ℕ) (n : ℕ). splice v n y) k z ∙ splice-splice r 0 x y (omega arith)
 
-lay-head-requires : tie.Need-lay-head-requires
-lay-head-requires c κs = search needs
-
-lay-at-requires : tie.Need-lay-at-requires
-lay-at-requires c κs = search needs
-
-same-length : tie.Need-same-length
-same-length c = search needs
-
 returns : tie.Need-returns
 returns c =
     let a = c .before .before .before .before .before .before .before .before .before .before .args in
@@ -37,4 +28,4 @@ returns c =
     (omega arith) (c .before .before .before .before .before .before .lay-head .ensures) (c .before .before .lay-at .ensures)
 
 pub lay-segment-spec : {M : Type 1} → statement M
-lay-segment-spec = tie.close (tie.spec lay-head-requires lay-at-requires same-length returns)
+lay-segment-spec = tie.close (tie.spec (λ c κs. search needs) (λ c κs. search needs) (λ c. search needs) returns)

@@ -1,24 +1,13 @@
 -- `gateway_builder::lattrugone_builder_add_u32` meets its contract: what was added, and the words that say so.
 use borrow.Author.Needs.{needs}
-use Rattle.gateway_builder.proofs.Building.{appends}
+use Rattle.gateway_builder.proofs.BuilderAnswers.{appends}
 use Rattle.gateway_builder.proofs.lattrugone_builder_add_u32.Statement.{statement}
 use Rattle.gateway_builder.proofs.lattrugone_builder_add_u32.Tie as tie
-
-add-u32-requires : tie.Need-add-u32-requires
-add-u32-requires c κs = search needs
-
-put-added-requires : tie.Need-put-added-requires
-put-added-requires c κs = search needs
-
-same-length : tie.Need-same-length
-same-length c = search needs
-
-same-length-2 : tie.Need-same-length-2
-same-length-2 c = search needs
 
 returns : tie.Need-returns
 returns c = appends (c .before .before .before .before .before .before .add-u32 .ensures) (c .before .before .put-added .ensures)
 
 pub lattrugone-builder-add-u32-spec : {M : Type 1} → statement M
 lattrugone-builder-add-u32-spec =
-    tie.close (tie.spec add-u32-requires put-added-requires same-length same-length-2 returns)
+    tie.close
+    (tie.spec (λ c κs. search needs) (λ c κs. search needs) (λ c. search needs) (λ c. search needs) returns)

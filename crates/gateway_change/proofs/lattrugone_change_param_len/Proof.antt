@@ -3,23 +3,8 @@ use borrow.Author.Needs.{needs}
 use Rattle.gateway_change.proofs.lattrugone_change_param_len.Statement.{statement}
 use Rattle.gateway_change.proofs.lattrugone_change_param_len.Tie as tie
 
-change-param-len-requires : tie.Need-change-param-len-requires
-change-param-len-requires c κs = search needs
-
-put-laid-requires : tie.Need-put-laid-requires
-put-laid-requires c κs = search needs
-
-same-length : tie.Need-same-length
-same-length c = search needs
-
 returns : tie.Need-returns
 returns c = rw (← c .before .before .before .before .change-param-len .ensures) (c .before .before .put-laid .ensures)
 
 pub lattrugone-change-param-len-spec : {M : Type 1} → statement M
-lattrugone-change-param-len-spec =
-    tie.close
-    (tie.spec
-    change-param-len-requires
-    put-laid-requires
-    same-length
-    returns)
+lattrugone-change-param-len-spec = tie.close (tie.spec (λ c κs. search needs) (λ c κs. search needs) (λ c. search needs) returns)

@@ -3,17 +3,12 @@ use native.Mathlib.Omega.{arith}
 use mathlib.Core.Path.{ap}
 use lib.ListN.{length}
 use borrow.Author.Needs.{needs}
-use Rattle.dss_reader.specs.Gathered.{Fitted, fitted, takes-asks, asks-counted, recordsIn, room-kept, room-taken}
+use Rattle.dss_reader.proofs.GatheredFrames.{Fitted, fitted, takes-asks, asks-counted, room-kept, room-taken}
+use Rattle.dss_reader.specs.Reader.{recordsIn}
 use Rattle.gateway_row.specs.RowWords.{places}
-use Rattle.gateway_frames.specs.LaidRecords.{places-enough, row-filled, row-kept}
+use Rattle.gateway_frames.proofs.RecordLaws.{places-enough, row-filled, row-kept}
 use Rattle.gateway_frames.proofs.lattrugone_read_all_frames.Statement.{statement}
 use Rattle.gateway_frames.proofs.lattrugone_read_all_frames.Tie as tie
-
-measure-frames-requires : tie.Need-measure-frames-requires
-measure-frames-requires c κs = search needs
-
-enum-known-read : tie.Need-enum-known-read
-enum-known-read c = search needs
 
 -- the frames, which fit
 told : (c : tie.After-read)
@@ -28,24 +23,6 @@ take-frames-requires c κs =
     let n = places-enough (a .run .now) (a .at) (a .room .now) (places (a .row .now)) _ (r .before .before .measure-frames .ensures) in
     record { payloads = takes-asks _ _ _ _ (told r); counted = asks-counted _ _ _ _ (told r); records = omega (arith, n, ap recordsIn (r .read .given .1)) }
 
-put-frames-requires : tie.Need-put-frames-requires
-put-frames-requires c κs = search needs
-
-enum-told : tie.Need-enum-told
-enum-told c = search needs
-
-put-frames-requires-2 : tie.Need-put-frames-requires-2
-put-frames-requires-2 c κs = search needs
-
-same-length : tie.Need-same-length
-same-length c = search needs
-
-same-length-2 : tie.Need-same-length-2
-same-length-2 c = search needs
-
-same-length-3 : tie.Need-same-length-3
-same-length-3 c = search needs
-
 returns : tie.Need-returns
 returns c =
     let t = c .before .before .before .before .before .before .before .before in
@@ -57,9 +34,6 @@ returns c =
       room-is = room-taken _ _ _ _ (told r) _ (t .take-frames .ensures .room-is);
       row-is = row-filled (a .run .now) (a .at) (a .room .now) (a .row .now) _ _ _ m (ap recordsIn (r .read .given .1)) (t .take-frames .ensures .row-is);
     }
-
-same-length-4 : tie.Need-same-length-4
-same-length-4 c = search needs
 
 returns-2 : tie.Need-returns-2
 returns-2 c =
@@ -75,16 +49,5 @@ returns-2 c =
 pub lattrugone-read-all-frames-spec : {M : Type 1} → statement M
 lattrugone-read-all-frames-spec =
     tie.close
-    (tie.spec
-    measure-frames-requires
-    enum-known-read
-    take-frames-requires
-    put-frames-requires
-    enum-told
-    put-frames-requires-2
-    same-length
-    same-length-2
-    same-length-3
-    returns
-    same-length-4
-    returns-2)
+    (tie.spec (λ c κs. search needs) (λ c. search needs) take-frames-requires (λ c κs. search needs) (λ c. search needs)
+    (λ c κs. search needs) (λ c. search needs) (λ c. search needs) (λ c. search needs) returns (λ c. search needs) returns-2)

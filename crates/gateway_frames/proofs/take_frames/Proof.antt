@@ -8,16 +8,18 @@ use borrow.Author.Needs.{needs}
 use Rattle.wire.specs.Bytes.{splice, laid}
 use Rattle.dss_frame.specs.Frames.{allFrames}
 use Rattle.dss_frame.specs.declared.DssFrame.{DssFrame}
-use Rattle.dss_reader.specs.Taking.{allPayloads, taking-inside, taking-length}
+use Rattle.dss_reader.specs.inner.TakingAll.{allPayloads}
+use Rattle.dss_reader.proofs.TakingFrames.{taking-inside, taking-length}
 use Rattle.gateway_row.specs.RowWords.{recordWords, recordLen}
-use Rattle.gateway_row.specs.LaidWords.{partOf}
-use Rattle.gateway_frames.specs.LaidRecords.{wordsFrom, Taking, taking-starts, taking-ends, taking-stays, taking-low, taking-there, taking-one}
+use Rattle.gateway_row.proofs.LaidWords.{partOf}
+use Rattle.gateway_frames.specs.inner.LaidRecords.{wordsFrom}
+use Rattle.gateway_frames.proofs.RecordLaws.{TakingRecords, taking-starts, taking-ends, taking-stays, taking-low, taking-there, taking-one}
 use Rattle.gateway_frames.proofs.take_frames.Statement.{statement}
 use Rattle.gateway_frames.proofs.take_frames.Tie as tie
 
 abbrev Inv-loop : tie.InvT-loop
 Inv-loop run from count room₀ row₀ at₀ payload-at₀ filled₀ left₀ room row at payload-at filled left =
-    Taking run (splice room₀ 0 (allPayloads run (allFrames run from))) row₀ (splice row₀ 0 (wordsFrom run from 0 count)) room row at payload-at filled left
+    TakingRecords run (splice room₀ 0 (allPayloads run (allFrames run from))) row₀ (splice row₀ 0 (wordsFrom run from 0 count)) room row at payload-at filled left
 
 abbrev μ-loop : tie.MeasureT-loop
 μ-loop run from count room₀ row₀ at₀ payload-at₀ filled₀ left₀ room row at payload-at filled left = left
@@ -30,15 +32,6 @@ sub-take c = taking-inside (c .before .loop .inv .payloads)
 
 part-take-start : tie.Need-part-take-start Inv-loop μ-loop
 part-take-start c = taking-inside (c .before .loop .inv .payloads)
-
-part-take-end : tie.Need-part-take-end Inv-loop μ-loop
-part-take-end c = search needs
-
-take-requires : tie.Need-take-requires Inv-loop μ-loop
-take-requires c κs = search needs
-
-enum-told : tie.Need-enum-told Inv-loop μ-loop
-enum-told c = search needs
 
 -- one is left, so that one is taken
 never : tie.After-enum-told Inv-loop μ-loop → ⊥
@@ -54,12 +47,6 @@ same-length-2 c = absurd (never c)
 
 returns : tie.Need-returns Inv-loop μ-loop
 returns c = absurd (never c)
-
-enum-known-measure : tie.Need-enum-known-measure Inv-loop μ-loop
-enum-known-measure c = search needs
-
-record-requires : tie.Need-record-requires Inv-loop μ-loop
-record-requires c κs = search needs
 
 add-next : tie.Need-add-next Inv-loop μ-loop
 add-next c =
@@ -81,9 +68,6 @@ part-put-record-start c = omega (arith, c .before .before .before .before .befor
 
 part-put-record-end : tie.Need-part-put-record-end Inv-loop μ-loop
 part-put-record-end c = omega (arith, c .before .before .before .before .before .before .before .before .before .loop .inv .records .fits)
-
-put-record-requires : tie.Need-put-record-requires Inv-loop μ-loop
-put-record-requires c κs = search needs
 
 add-payload-at : tie.Need-add-payload-at Inv-loop μ-loop
 add-payload-at c =
@@ -118,30 +102,7 @@ returns-2 c = let e = taking-ends (c .before .loop .inv) (omega arith) in record
 pub take-frames-spec : {M : Type 1} → statement M
 take-frames-spec =
     tie.close
-    (tie.spec
-    Inv-loop
-    μ-loop
-    loop-holds
-    sub-take
-    part-take-start
-    part-take-end
-    take-requires
-    enum-told
-    same-length
-    same-length-2
-    returns
-    enum-known-measure
-    record-requires
-    add-next
-    mul-put-record
-    sub-put-record
-    part-put-record-start
-    part-put-record-end
-    put-record-requires
-    add-payload-at
-    sub-left
-    loop-less
-    loop-again
-    same-length-3
-    same-length-4
-    returns-2)
+    (tie.spec Inv-loop μ-loop loop-holds sub-take part-take-start (λ c. search needs) (λ c κs. search needs) (λ c. search needs)
+    same-length same-length-2 returns (λ c. search needs) (λ c κs. search needs) add-next mul-put-record sub-put-record
+    part-put-record-start part-put-record-end (λ c κs. search needs) add-payload-at sub-left loop-less loop-again same-length-3
+    same-length-4 returns-2)

@@ -3,18 +3,6 @@ use borrow.Author.Needs.{needs}
 use Rattle.gateway_measure.proofs.lattrugone_measure_frame.Statement.{statement}
 use Rattle.gateway_measure.proofs.lattrugone_measure_frame.Tie as tie
 
-rules-of-requires : tie.Need-rules-of-requires
-rules-of-requires c κs = search needs
-
-measure-requires : tie.Need-measure-requires
-measure-requires c κs = search needs
-
-put-measured-requires : tie.Need-put-measured-requires
-put-measured-requires c κs = search needs
-
-same-length : tie.Need-same-length
-same-length c = search needs
-
 returns : tie.Need-returns
 returns c =
     let m = c .before .before .before .before in
@@ -22,4 +10,5 @@ returns c =
 
 pub lattrugone-measure-frame-spec : {M : Type 1} → statement M
 lattrugone-measure-frame-spec =
-    tie.close (tie.spec rules-of-requires measure-requires put-measured-requires same-length returns)
+    tie.close
+    (tie.spec (λ c κs. search needs) (λ c κs. search needs) (λ c κs. search needs) (λ c. search needs) returns)

@@ -1,7 +1,7 @@
 -- `gateway_measure::rules_of` meets its contract: 0, or any other number.
 use mathlib.Core.Path.{sym}
 use borrow.Author.Tests.{eq-eqb, ne-eqb}
-use Rattle.wire.specs.Laws.{pick-yes, pick-no}
+use Rattle.wire.proofs.WireLaws.{pick-yes, pick-no}
 use Rattle.gateway_measure.proofs.rules_of.Statement.{statement}
 use Rattle.gateway_measure.proofs.rules_of.Tie as tie
 

@@ -3,19 +3,9 @@ use borrow.Author.Needs.{needs}
 use Rattle.gateway_object.proofs.lattrugone_parse_marshaled_length.Statement.{statement}
 use Rattle.gateway_object.proofs.lattrugone_parse_marshaled_length.Tie as tie
 
-parse-marshaled-length-requires : tie.Need-parse-marshaled-length-requires
-parse-marshaled-length-requires c κs = search needs
-
-put-length-requires : tie.Need-put-length-requires
-put-length-requires c κs = search needs
-
-same-length : tie.Need-same-length
-same-length c = search needs
-
 returns : tie.Need-returns
 returns c =
     rw (← c .before .before .before .before .parse-marshaled-length .ensures) (c .before .before .put-length .ensures)
 
 pub lattrugone-parse-marshaled-length-spec : {M : Type 1} → statement M
-lattrugone-parse-marshaled-length-spec =
-    tie.close (tie.spec parse-marshaled-length-requires put-length-requires same-length returns)
+lattrugone-parse-marshaled-length-spec = tie.close (tie.spec (λ c κs. search needs) (λ c κs. search needs) (λ c. search needs) returns)

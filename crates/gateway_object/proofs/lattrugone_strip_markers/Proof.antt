@@ -7,15 +7,6 @@ strip-extended-ddm-continuation-markers-requires :
     tie.Need-strip-extended-ddm-continuation-markers-requires
 strip-extended-ddm-continuation-markers-requires c κs = search needs
 
-put-laid-requires : tie.Need-put-laid-requires
-put-laid-requires c κs = search needs
-
-same-length : tie.Need-same-length
-same-length c = search needs
-
-same-length-2 : tie.Need-same-length-2
-same-length-2 c = search needs
-
 returns : tie.Need-returns
 returns c =
     let laid = c .before .before .before .before .before .before .strip-extended-ddm-continuation-markers .ensures in
@@ -24,9 +15,4 @@ returns c =
 pub lattrugone-strip-markers-spec : {M : Type 1} → statement M
 lattrugone-strip-markers-spec =
     tie.close
-    (tie.spec
-    strip-extended-ddm-continuation-markers-requires
-    put-laid-requires
-    same-length
-    same-length-2
-    returns)
+    (tie.spec strip-extended-ddm-continuation-markers-requires (λ c κs. search needs) (λ c. search needs) (λ c. search needs) returns)

@@ -1,5 +1,5 @@
 -- `gateway_object::word_of` meets its contract: how far a negative number is below -1, from the largest word down.
-use Rattle.gateway_object.specs.SignedLaws.{below-fits, below-cast, below-small, below-word, same-cast, same-word}
+use Rattle.gateway_object.proofs.SignedLaws.{below-fits, below-cast, below-small, below-word, same-cast, same-word}
 use Rattle.gateway_object.proofs.word_of.Statement.{statement}
 use Rattle.gateway_object.proofs.word_of.Tie as tie
 

@@ -2,7 +2,7 @@
 use Prim.Native.Nat.{_-_}
 use native.Mathlib.Omega.{arith}
 use mathlib.Core.Path.{sym, _∙_}
-use Rattle.gateway_object_rows.specs.Filling.{Filling, filling-start, filling-length, filling-room, filling-step, filling-ends, filling-done}
+use Rattle.gateway_object_rows.proofs.FillingLaws.{Filling, filling-start, filling-length, filling-room, filling-step, filling-ends, filling-done}
 use borrow.Author.Needs.{needs}
 use Rattle.gateway_object_rows.proofs.fill.Statement.{statement}
 use Rattle.gateway_object_rows.proofs.fill.Tie as tie
@@ -15,12 +15,6 @@ abbrev μ-loop : tie.MeasureT-loop
 
 loop-holds : tie.Need-loop-holds Inv-loop μ-loop
 loop-holds c = filling-start _ _ _ (c .before .before .pre)
-
-step-at-requires : tie.Need-step-at-requires Inv-loop μ-loop
-step-at-requires c κs = search needs
-
-enum-known-o : tie.Need-enum-known-o Inv-loop μ-loop
-enum-known-o c = search needs
 
 mul-from : tie.Need-mul-from Inv-loop μ-loop
 mul-from c =
@@ -38,12 +32,6 @@ part-put-object-start : tie.Need-part-put-object-start Inv-loop μ-loop
 part-put-object-start c =
     omega (arith, filling-room _ _ _ _ _ _ (c .before .before .before .before .before .loop .inv) (c .before .before .before .before .loop-test .taken))
 
-part-put-object-end : tie.Need-part-put-object-end Inv-loop μ-loop
-part-put-object-end c = search needs
-
-put-object-requires : tie.Need-put-object-requires Inv-loop μ-loop
-put-object-requires c κs = search needs
-
 add-i : tie.Need-add-i Inv-loop μ-loop
 add-i c =
     omega (arith, c .before .before .before .before .before .before .before .before .before .loop .inv .fits, c .before .before .before .before .before .before .before .before .loop-test .taken, c .before .before .before .before .before .before .before .before .before .before .before .before .good)
@@ -54,9 +42,6 @@ loop-less c = omega (arith, c .before .before .before .before .before .before .b
 loop-again : tie.Need-loop-again Inv-loop μ-loop
 loop-again c =
     filling-step _ _ _ _ _ _ (c .before .before .before .before .before .before .before .before .before .loop .inv) (c .before .before .before .before .before .before .before .before .loop-test .taken) _ _ _ (sym (c .before .before .before .before .before .before .before .step-at .ensures) ∙ c .before .before .before .before .before .o .given .1) (c .before .before .put-object .ensures .words-are)
-
-enum-told : tie.Need-enum-told Inv-loop μ-loop
-enum-told c = search needs
 
 same-length : tie.Need-same-length Inv-loop μ-loop
 same-length c = filling-length _ _ _ _ _ _ (c .before .before .before .before .loop .inv)
@@ -74,23 +59,6 @@ returns-2 c = filling-done _ _ _ _ _ _ (c .before .loop .inv) (c .loop-test .lef
 pub fill-spec : {M : Type 1} → statement M
 fill-spec =
     tie.close
-    (tie.spec
-    Inv-loop
-    μ-loop
-    loop-holds
-    step-at-requires
-    enum-known-o
-    mul-from
-    mul-put-object
-    sub-put-object
-    part-put-object-start
-    part-put-object-end
-    put-object-requires
-    add-i
-    loop-less
-    loop-again
-    enum-told
-    same-length
-    returns
-    same-length-2
-    returns-2)
+    (tie.spec Inv-loop μ-loop loop-holds (λ c κs. search needs) (λ c. search needs) mul-from mul-put-object sub-put-object
+    part-put-object-start (λ c. search needs) (λ c κs. search needs) add-i loop-less loop-again (λ c. search needs) same-length returns
+    same-length-2 returns-2)

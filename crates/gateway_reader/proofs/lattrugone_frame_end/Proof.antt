@@ -3,18 +3,8 @@ use borrow.Author.Needs.{needs}
 use Rattle.gateway_reader.proofs.lattrugone_frame_end.Statement.{statement}
 use Rattle.gateway_reader.proofs.lattrugone_frame_end.Tie as tie
 
-complete-frame-len-requires : tie.Need-complete-frame-len-requires
-complete-frame-len-requires c κs = search needs
-
-put-end-requires : tie.Need-put-end-requires
-put-end-requires c κs = search needs
-
-same-length : tie.Need-same-length
-same-length c = search needs
-
 returns : tie.Need-returns
 returns c = rw (← c .before .before .before .before .complete-frame-len .ensures) (c .before .before .put-end .ensures)
 
 pub lattrugone-frame-end-spec : {M : Type 1} → statement M
-lattrugone-frame-end-spec =
-    tie.close (tie.spec complete-frame-len-requires put-end-requires same-length returns)
+lattrugone-frame-end-spec = tie.close (tie.spec (λ c κs. search needs) (λ c κs. search needs) (λ c. search needs) returns)

@@ -3,9 +3,6 @@ use borrow.Author.Needs.{needs}
 use Rattle.gateway_reader.proofs.lattrugone_has_frame.Statement.{statement}
 use Rattle.gateway_reader.proofs.lattrugone_has_frame.Tie as tie
 
-has-complete-frame-requires : tie.Need-has-complete-frame-requires
-has-complete-frame-requires c κs = search needs
-
 returns : tie.Need-returns
 returns c = rw (← c .before .has-complete-frame .ensures, c .if1 .taken)
 
@@ -13,4 +10,4 @@ returns-2 : tie.Need-returns-2
 returns-2 c = rw (← c .before .has-complete-frame .ensures, c .if1 .left)
 
 pub lattrugone-has-frame-spec : {M : Type 1} → statement M
-lattrugone-has-frame-spec = tie.close (tie.spec has-complete-frame-requires returns returns-2)
+lattrugone-has-frame-spec = tie.close (tie.spec (λ c κs. search needs) returns returns-2)

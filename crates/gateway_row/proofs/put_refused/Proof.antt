@@ -4,10 +4,10 @@ use mathlib.Core.Path.{refl, sym, ap, _∙_}
 use mathlib.Core.List.{List}
 use borrow.Author.Needs.{needs}
 use Rattle.wire.specs.Bytes.{laid}
-use Rattle.wire.specs.Splice.{laid-kept}
-use Rattle.gateway_words.specs.Words.{refusalWords}
+use Rattle.wire.proofs.Splicing.{laid-kept}
+use Rattle.gateway_words.specs.AnswerWords.{refusalWords}
 use Rattle.gateway_row.specs.RowWords.{stretch, refusedWords}
-use Rattle.gateway_row.specs.LaidWords.{laid-behind}
+use Rattle.gateway_row.proofs.LaidWords.{laid-behind}
 use Rattle.gateway_row.proofs.put_refused.Statement.{statement}
 use Rattle.gateway_row.proofs.put_refused.Tie as tie
 
@@ -15,15 +15,6 @@ returns : tie.Need-returns
 returns c =
     let a = c .before .before .args in
     sym (laid-kept (a .words .now) 0 (refusedWords (a .refused) (a .first) (a .end)) (c .if1 .taken))
-
-put-refusal-requires : tie.Need-put-refusal-requires
-put-refusal-requires c κs = search needs
-
-put-stretch-requires : tie.Need-put-stretch-requires
-put-stretch-requires c κs = search needs
-
-same-length : tie.Need-same-length
-same-length c = search needs
 
 returns-2 : tie.Need-returns-2
 returns-2 c =
@@ -35,4 +26,4 @@ returns-2 c =
     ∙ laid-behind (a .words .now) (refusalWords (a .refused)) s 8 refl (k .before .before .if1 .left)
 
 pub put-refused-spec : {M : Type 1} → statement M
-put-refused-spec = tie.close (tie.spec returns put-refusal-requires put-stretch-requires same-length returns-2)
+put-refused-spec = tie.close (tie.spec returns (λ c κs. search needs) (λ c κs. search needs) (λ c. search needs) returns-2)

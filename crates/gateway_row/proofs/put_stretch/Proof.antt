@@ -3,7 +3,7 @@ use native.Mathlib.Omega.{arith}
 use mathlib.Core.Path.{sym, _∙_}
 use lib.ListN.{length-set}
 use borrow.Author.Needs.{needs}
-use Rattle.wire.specs.Splice.{laid-fits, laid-kept, sets-splice}
+use Rattle.wire.proofs.Splicing.{laid-fits, laid-kept, sets-splice}
 use Rattle.gateway_row.specs.RowWords.{stretch}
 use Rattle.gateway_row.proofs.put_stretch.Statement.{statement}
 use Rattle.gateway_row.proofs.put_stretch.Tie as tie
@@ -13,14 +13,8 @@ returns c =
     let a = c .before .args in
     sym (laid-kept (a .words .now) 8 (stretch (a .first) (a .end)) (c .if1 .taken))
 
-slice-write-words : tie.Need-slice-write-words
-slice-write-words c = search needs
-
 slice-write-words-2 : tie.Need-slice-write-words-2
 slice-write-words-2 c = simp length-set (omega arith)
-
-same-length : tie.Need-same-length
-same-length c = search needs
 
 returns-2 : tie.Need-returns-2
 returns-2 c =
@@ -29,4 +23,4 @@ returns-2 c =
     sets-splice b (a .words .now) 8 (c .if1 .left) ∙ sym (laid-fits (a .words .now) 8 b (c .if1 .left))
 
 pub put-stretch-spec : {M : Type 1} → statement M
-put-stretch-spec = tie.close (tie.spec returns slice-write-words slice-write-words-2 same-length returns-2)
+put-stretch-spec = tie.close (tie.spec returns (λ c. search needs) slice-write-words-2 (λ c. search needs) returns-2)

@@ -8,15 +8,15 @@ use borrow.Author.Needs.{needs}
 use Rattle.wire.specs.Bytes.{splice, laid}
 use Rattle.dss_frame.specs.declared.DssFrame.{DssFrame}
 use Rattle.dss_salvage.specs.declared.Step.the-variants.{Frame}
-use Rattle.dss_salvage.specs.Steps.{stepAt}
+use Rattle.dss_salvage.specs.inner.SalvageSteps.{stepAt}
 use Rattle.gateway_row.specs.RowWords.{recordWords, recordLen}
-use Rattle.gateway_row.specs.LaidWords.{partOf}
-use Rattle.gateway_salvage.specs.LaidEntries.{wordsFrom, Lays, lays-start, lays-all, lays-end, frame-low, frame-there, lays-frame, lays-over, lays-last, last-long}
+use Rattle.gateway_row.proofs.LaidWords.{partOf}
+use Rattle.gateway_salvage.proofs.LaidEntries.{entryWordsFrom, LaysEntries, lays-start, lays-all, lays-end, frame-low, frame-there, lays-frame, lays-over, lays-last, last-long}
 use Rattle.gateway_salvage.proofs.lay_entries.Statement.{statement}
 use Rattle.gateway_salvage.proofs.lay_entries.Tie as tie
 
 abbrev Inv-loop : tie.InvT-loop
-Inv-loop run count row₀ at₀ payload-at₀ filled₀ left₀ row at payload-at filled left = Lays run row₀ (splice row₀ 0 (wordsFrom run 0 0 count)) row at payload-at filled left
+Inv-loop run count row₀ at₀ payload-at₀ filled₀ left₀ row at payload-at filled left = LaysEntries run row₀ (splice row₀ 0 (entryWordsFrom run 0 0 count)) row at payload-at filled left
 
 abbrev μ-loop : tie.MeasureT-loop
 μ-loop run count row₀ at₀ payload-at₀ filled₀ left₀ row at payload-at filled left = left
@@ -29,11 +29,8 @@ add-next c =
     let l = c .before .loop .inv in
     omega (arith, l .fits, l .laying .long, c .before .before .before .before)
 
-entry-at-requires : tie.Need-entry-at-requires Inv-loop μ-loop
-entry-at-requires c κs = search needs
-
 -- where the loop stands when a step was found
-module _ (e : tie.After-entry-at Inv-loop μ-loop) where
+module _ (e : tie.After-step-at Inv-loop μ-loop) where
   abbrev at-loop : tie.At-loop Inv-loop μ-loop
   at-loop = e .before .before
 
@@ -45,16 +42,10 @@ module _ (e : tie.After-entry-at Inv-loop μ-loop) where
 
 -- ---- a frame
 
-enum-known-measure : tie.Need-enum-known-measure Inv-loop μ-loop
-enum-known-measure c = search needs
-
 framed : (k : tie.After-measure Inv-loop μ-loop)
     → (let e = k .before .before in
     stepAt (run e) (at-loop e .loop .at) ≡ Frame (k .measure .given .0 .0))
-framed k = sym (k .before .before .entry-at .ensures) ∙ k .measure .given .1
-
-record-requires : tie.Need-record-requires Inv-loop μ-loop
-record-requires c κs = search needs
+framed k = sym (k .before .before .step-at .ensures) ∙ k .measure .given .1
 
 mul-put-record : tie.Need-mul-put-record Inv-loop μ-loop
 mul-put-record c = omega arith
@@ -67,9 +58,6 @@ part-put-record-start c = omega arith
 
 part-put-record-end : tie.Need-part-put-record-end Inv-loop μ-loop
 part-put-record-end c = omega arith
-
-put-record-requires : tie.Need-put-record-requires Inv-loop μ-loop
-put-record-requires c κs = search needs
 
 add-payload-at : tie.Need-add-payload-at Inv-loop μ-loop
 add-payload-at c =
@@ -97,9 +85,6 @@ loop-again c =
 
 -- ---- a refusal that is stepped over
 
-enum-known-refused : tie.Need-enum-known-refused Inv-loop μ-loop
-enum-known-refused c = search needs
-
 mul-put-refused : tie.Need-mul-put-refused Inv-loop μ-loop
 mul-put-refused c = omega arith
 
@@ -112,9 +97,6 @@ part-put-refused-start c = omega arith
 part-put-refused-end : tie.Need-part-put-refused-end Inv-loop μ-loop
 part-put-refused-end c = omega arith
 
-put-refused-requires : tie.Need-put-refused-requires Inv-loop μ-loop
-put-refused-requires c κs = search needs
-
 sub-left-2 : tie.Need-sub-left-2 Inv-loop μ-loop
 sub-left-2 c = omega arith
 
@@ -125,12 +107,9 @@ loop-again-2 : tie.Need-loop-again-2 Inv-loop μ-loop
 loop-again-2 c =
     let k = c .before .before .before .before .before in
     let e = k .before .before in
-    lays-over _ _ _ _ _ _ _ _ (inv e) (e .before .loop-test .taken) _ _ _ (sym (e .entry-at .ensures) ∙ k .refused .given .1) (c .before .before .put-refused .ensures)
+    lays-over _ _ _ _ _ _ _ _ (inv e) (e .before .loop-test .taken) _ _ _ (sym (e .step-at .ensures) ∙ k .refused .given .1) (c .before .before .put-refused .ensures)
 
 -- ---- a refusal that the walk ends at
-
-enum-known-refused-2 : tie.Need-enum-known-refused-2 Inv-loop μ-loop
-enum-known-refused-2 c = search needs
 
 mul-put-refused-2 : tie.Need-mul-put-refused-2 Inv-loop μ-loop
 mul-put-refused-2 c = omega arith
@@ -144,25 +123,19 @@ part-put-refused-start-2 c = omega arith
 part-put-refused-end-2 : tie.Need-part-put-refused-end-2 Inv-loop μ-loop
 part-put-refused-end-2 c = omega arith
 
-put-refused-requires-2 : tie.Need-put-refused-requires-2 Inv-loop μ-loop
-put-refused-requires-2 c κs = search needs
-
 same-length : tie.Need-same-length Inv-loop μ-loop
 same-length c =
     let k = c .before .before .before .before .before in
     let e = k .before .before in
-    last-long _ _ _ _ _ _ _ _ (inv e) (e .before .loop-test .taken) _ _ (sym (e .entry-at .ensures) ∙ k .refused2 .given .1) (c .before .before .put-refused2 .ensures)
+    last-long _ _ _ _ _ _ _ _ (inv e) (e .before .loop-test .taken) _ _ (sym (e .step-at .ensures) ∙ k .refused2 .given .1) (c .before .before .put-refused2 .ensures)
 
 returns : tie.Need-returns Inv-loop μ-loop
 returns c =
     let k = c .before .before .before .before .before in
     let e = k .before .before in
-    lays-last _ _ _ _ _ _ _ _ (inv e) (e .before .loop-test .taken) _ _ (sym (e .entry-at .ensures) ∙ k .refused2 .given .1) (c .before .before .put-refused2 .ensures)
+    lays-last _ _ _ _ _ _ _ _ (inv e) (e .before .loop-test .taken) _ _ (sym (e .step-at .ensures) ∙ k .refused2 .given .1) (c .before .before .put-refused2 .ensures)
 
 -- ---- no entry, and none left
-
-enum-told : tie.Need-enum-told Inv-loop μ-loop
-enum-told c = search needs
 
 same-length-2 : tie.Need-same-length-2 Inv-loop μ-loop
 same-length-2 c = inv (c .before .before) .laying .long
@@ -170,7 +143,7 @@ same-length-2 c = inv (c .before .before) .laying .long
 returns-2 : tie.Need-returns-2 Inv-loop μ-loop
 returns-2 c =
     let e = c .before .before in
-    lays-end _ _ _ _ _ _ _ _ (inv e) (e .before .loop-test .taken) (sym (e .entry-at .ensures) ∙ c .enum-told .given .1)
+    lays-end _ _ _ _ _ _ _ _ (inv e) (e .before .loop-test .taken) (sym (e .step-at .ensures) ∙ c .enum-told .given .1)
 
 same-length-3 : tie.Need-same-length-3 Inv-loop μ-loop
 same-length-3 c = c .before .loop .inv .laying .long
@@ -181,42 +154,8 @@ returns-3 c = lays-all _ _ _ _ _ _ _ _ (c .before .loop .inv) (omega arith)
 pub lay-entries-spec : {M : Type 1} → statement M
 lay-entries-spec =
     tie.close
-    (tie.spec
-    Inv-loop
-    μ-loop
-    loop-holds
-    add-next
-    entry-at-requires
-    enum-known-measure
-    record-requires
-    mul-put-record
-    sub-put-record
-    part-put-record-start
-    part-put-record-end
-    put-record-requires
-    add-payload-at
-    sub-left
-    loop-less
-    loop-again
-    enum-known-refused
-    mul-put-refused
-    sub-put-refused
-    part-put-refused-start
-    part-put-refused-end
-    put-refused-requires
-    sub-left-2
-    loop-less-2
-    loop-again-2
-    enum-known-refused-2
-    mul-put-refused-2
-    sub-put-refused-2
-    part-put-refused-start-2
-    part-put-refused-end-2
-    put-refused-requires-2
-    same-length
-    returns
-    enum-told
-    same-length-2
-    returns-2
-    same-length-3
-    returns-3)
+    (tie.spec Inv-loop μ-loop loop-holds add-next (λ c κs. search needs) (λ c. search needs) (λ c κs. search needs) mul-put-record
+    sub-put-record part-put-record-start part-put-record-end (λ c κs. search needs) add-payload-at sub-left loop-less loop-again
+    (λ c. search needs) mul-put-refused sub-put-refused part-put-refused-start part-put-refused-end (λ c κs. search needs) sub-left-2
+    loop-less-2 loop-again-2 (λ c. search needs) mul-put-refused-2 sub-put-refused-2 part-put-refused-start-2 part-put-refused-end-2
+    (λ c κs. search needs) same-length returns (λ c. search needs) same-length-2 returns-2 same-length-3 returns-3)

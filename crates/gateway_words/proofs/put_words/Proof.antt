@@ -3,7 +3,7 @@ use native.Mathlib.Omega.{arith}
 use mathlib.Core.Path.{sym}
 use mathlib.Core.List.{[], _∷_}
 use lib.ListN.{length-set}
-use Rattle.wire.specs.Splice.{laid-kept, sets-laid}
+use Rattle.wire.proofs.Splicing.{laid-kept, sets-laid}
 use borrow.Author.Needs.{needs}
 use Rattle.gateway_words.proofs.put_words.Statement.{statement}
 use Rattle.gateway_words.proofs.put_words.Tie as tie
@@ -12,9 +12,6 @@ returns : tie.Need-returns
 returns c =
     let a = c .before .args in
     sym (laid-kept (a .words .now) 0 (a .a ∷ a .b ∷ a .c ∷ a .d ∷ a .e ∷ a .f ∷ a .g ∷ a .h ∷ []) (c .if1 .taken))
-
-slice-write-words : tie.Need-slice-write-words
-slice-write-words c = search needs
 
 slice-write-words-2 : tie.Need-slice-write-words-2
 slice-write-words-2 c = simp length-set (omega arith)
@@ -34,12 +31,6 @@ slice-write-words-6 c = simp length-set (omega arith)
 slice-write-words-7 : tie.Need-slice-write-words-7
 slice-write-words-7 c = simp length-set (omega arith)
 
-slice-write-words-8 : tie.Need-slice-write-words-8
-slice-write-words-8 c = search needs
-
-same-length : tie.Need-same-length
-same-length c = search needs
-
 returns-2 : tie.Need-returns-2
 returns-2 c =
     let a = c .before .args in
@@ -48,15 +39,5 @@ returns-2 c =
 pub put-words-spec : {M : Type 1} → statement M
 put-words-spec =
     tie.close
-    (tie.spec
-    returns
-    slice-write-words
-    slice-write-words-2
-    slice-write-words-3
-    slice-write-words-4
-    slice-write-words-5
-    slice-write-words-6
-    slice-write-words-7
-    slice-write-words-8
-    same-length
-    returns-2)
+    (tie.spec returns (λ c. search needs) slice-write-words-2 slice-write-words-3 slice-write-words-4 slice-write-words-5
+    slice-write-words-6 slice-write-words-7 (λ c. search needs) (λ c. search needs) returns-2)

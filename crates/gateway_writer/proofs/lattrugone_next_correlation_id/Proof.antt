@@ -6,15 +6,8 @@ use borrow.Author.Needs.{needs}
 use Rattle.gateway_writer.proofs.lattrugone_next_correlation_id.Statement.{statement}
 use Rattle.gateway_writer.proofs.lattrugone_next_correlation_id.Tie as tie
 
-new-requires : tie.Need-new-requires
-new-requires c κs = search needs
-
-next-correlation-id-requires : tie.Need-next-correlation-id-requires
-next-correlation-id-requires c κs = search needs
-
 returns : tie.Need-returns
 returns c = ap (λ (w : DssWriter). w .«correlation_id») (c .next-correlation-id .ensures ∙ ap nextCorrelation (c .before .new .ensures))
 
 pub lattrugone-next-correlation-id-spec : {M : Type 1} → statement M
-lattrugone-next-correlation-id-spec =
-    tie.close (tie.spec new-requires next-correlation-id-requires returns)
+lattrugone-next-correlation-id-spec = tie.close (tie.spec (λ c κs. search needs) (λ c κs. search needs) returns)

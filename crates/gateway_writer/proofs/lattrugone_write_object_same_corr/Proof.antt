@@ -1,26 +1,13 @@
 -- `gateway_writer::lattrugone_write_object_same_corr` meets its contract: what was written, and the words that say so.
-use mathlib.Core.Path.{refl}
 use borrow.Author.Needs.{needs}
-use Rattle.gateway_writer.proofs.Sending.{sends-typed}
+use Rattle.gateway_writer.proofs.Sending.{sends-written}
 use Rattle.gateway_writer.proofs.lattrugone_write_object_same_corr.Statement.{statement}
 use Rattle.gateway_writer.proofs.lattrugone_write_object_same_corr.Tie as tie
 
-write-object-same-corr-requires : tie.Need-write-object-same-corr-requires
-write-object-same-corr-requires c κs = search needs
-
-put-wrote-requires : tie.Need-put-wrote-requires
-put-wrote-requires c κs = search needs
-
-same-length : tie.Need-same-length
-same-length c = search needs
-
-same-length-2 : tie.Need-same-length-2
-same-length-2 c = search needs
-
 returns : tie.Need-returns
-returns c = sends-typed refl (c .before .before .before .before .before .before .write-object-same-corr .ensures) (c .before .before .put-wrote .ensures)
+returns c = sends-written (c .before .before .before .before .before .before .write-object-same-corr .ensures) (c .before .before .put-wrote .ensures)
 
 pub lattrugone-write-object-same-corr-spec : {M : Type 1} → statement M
 lattrugone-write-object-same-corr-spec =
     tie.close
-    (tie.spec write-object-same-corr-requires put-wrote-requires same-length same-length-2 returns)
+    (tie.spec (λ c κs. search needs) (λ c κs. search needs) (λ c. search needs) (λ c. search needs) returns)

@@ -1,7 +1,7 @@
 -- `lines::put_end` meets its contract.
 use mathlib.Core.Path.{refl}
 use native.Mathlib.Omega.{arith}
-use Rattle.lines.specs.LineLaws.{put-end-is}
+use Rattle.lines.proofs.LineLaws.{put-end-is}
 use borrow.Author.Needs.{needs}
 use Rattle.lines.proofs.put_end.Statement.{statement}
 use Rattle.lines.proofs.put_end.Tie as tie
@@ -24,9 +24,6 @@ slice-aggregate-put-text c = refl
 put-text-requires : tie.Need-put-text-requires
 put-text-requires c κs = tt
 
-same-length : tie.Need-same-length
-same-length c = search needs
-
 returns : tie.Need-returns
 returns c =
     let z = c .before .before in
@@ -37,12 +34,5 @@ returns c =
 pub put-end-spec : {M : Type 1} → statement M
 put-end-spec =
     tie.close
-    (tie.spec
-    slice-aggregate-put-number
-    put-number-requires
-    slice-aggregate-put-number-2
-    put-number-requires-2
-    slice-aggregate-put-text
-    put-text-requires
-    same-length
-    returns)
+    (tie.spec slice-aggregate-put-number put-number-requires slice-aggregate-put-number-2 put-number-requires-2 slice-aggregate-put-text
+    put-text-requires (λ c. search needs) returns)

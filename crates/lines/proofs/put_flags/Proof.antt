@@ -1,6 +1,6 @@
 -- `lines::put_flags` meets its contract.
 use native.Mathlib.Omega.{arith}
-use Rattle.lines.specs.LineLaws.{put-flags-is}
+use Rattle.lines.proofs.LineLaws.{put-flags-is}
 use borrow.Author.Needs.{needs}
 use Rattle.lines.proofs.put_flags.Statement.{statement}
 use Rattle.lines.proofs.put_flags.Tie as tie
@@ -23,9 +23,6 @@ letter-requires-3 c κs = tt
 put-byte-requires-3 : tie.Need-put-byte-requires-3
 put-byte-requires-3 c κs = tt
 
-same-length : tie.Need-same-length
-same-length c = search needs
-
 returns : tie.Need-returns
 returns c =
     let z = c .before .before in
@@ -36,12 +33,5 @@ returns c =
 pub put-flags-spec : {M : Type 1} → statement M
 put-flags-spec =
     tie.close
-    (tie.spec
-    letter-requires
-    put-byte-requires
-    letter-requires-2
-    put-byte-requires-2
-    letter-requires-3
-    put-byte-requires-3
-    same-length
-    returns)
+    (tie.spec letter-requires put-byte-requires letter-requires-2 put-byte-requires-2 letter-requires-3 put-byte-requires-3
+    (λ c. search needs) returns)

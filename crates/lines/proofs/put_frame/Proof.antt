@@ -1,8 +1,8 @@
 -- `lines::put_frame` meets its contract.
 use mathlib.Core.Path.{refl}
 use native.Mathlib.Omega.{arith}
-use Rattle.text.specs.PutLaws.{puts-length}
-use Rattle.lines.specs.LineLaws.{put-frame-is}
+use Rattle.text.proofs.PutLaws.{puts-length}
+use Rattle.lines.proofs.LineLaws.{put-frame-is}
 use borrow.Author.Needs.{needs}
 use Rattle.lines.proofs.put_frame.Statement.{statement}
 use Rattle.lines.proofs.put_frame.Tie as tie
@@ -33,9 +33,6 @@ put-flags-requires c κs = tt
 
 slice-aggregate-put-number-2 : tie.Need-slice-aggregate-put-number-2
 slice-aggregate-put-number-2 c = refl
-
-cast-put-number : tie.Need-cast-put-number
-cast-put-number c = search needs
 
 put-number-requires-2 : tie.Need-put-number-requires-2
 put-number-requires-2 c κs = tt
@@ -78,23 +75,7 @@ same-length c = puts-length (returns c)
 pub put-frame-spec : {M : Type 1} → statement M
 put-frame-spec =
     tie.close
-    (tie.spec
-    slice-aggregate-put-number
-    put-number-requires
-    slice-aggregate-put-text
-    put-text-requires
-    put-type-requires
-    slice-aggregate-put-text-2
-    put-text-requires-2
-    put-flags-requires
-    slice-aggregate-put-number-2
-    cast-put-number
-    put-number-requires-2
-    slice-aggregate-put-number-3
-    put-number-requires-3
-    slice-aggregate-put-number-4
-    put-number-requires-4
-    slice-aggregate-put-text-3
-    put-text-requires-3
-    same-length
-    returns)
+    (tie.spec slice-aggregate-put-number put-number-requires slice-aggregate-put-text put-text-requires put-type-requires
+    slice-aggregate-put-text-2 put-text-requires-2 put-flags-requires slice-aggregate-put-number-2 (λ c. search needs)
+    put-number-requires-2 slice-aggregate-put-number-3 put-number-requires-3 slice-aggregate-put-number-4 put-number-requires-4
+    slice-aggregate-put-text-3 put-text-requires-3 same-length returns)

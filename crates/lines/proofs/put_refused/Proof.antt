@@ -1,7 +1,7 @@
 -- `lines::put_refused` meets its contract.
 use mathlib.Core.Path.{refl}
 use native.Mathlib.Omega.{arith}
-use Rattle.lines.specs.LineLaws.{put-refused-is}
+use Rattle.lines.proofs.LineLaws.{put-refused-is}
 use borrow.Author.Needs.{needs}
 use Rattle.lines.proofs.put_refused.Statement.{statement}
 use Rattle.lines.proofs.put_refused.Tie as tie
@@ -11,9 +11,6 @@ slice-aggregate-put-number c = refl
 
 number-requires : tie.Need-number-requires
 number-requires c κs = tt
-
-cast-put-number : tie.Need-cast-put-number
-cast-put-number c = search needs
 
 put-number-requires : tie.Need-put-number-requires
 put-number-requires c κs = tt
@@ -39,9 +36,6 @@ slice-aggregate-put-text c = refl
 put-text-requires : tie.Need-put-text-requires
 put-text-requires c κs = tt
 
-same-length : tie.Need-same-length
-same-length c = search needs
-
 returns : tie.Need-returns
 returns c =
     let z = c .before .before in
@@ -54,17 +48,6 @@ returns c =
 pub put-refused-spec : {M : Type 1} → statement M
 put-refused-spec =
     tie.close
-    (tie.spec
-    slice-aggregate-put-number
-    number-requires
-    cast-put-number
-    put-number-requires
-    slice-aggregate-put-number-2
-    put-number-requires-2
-    slice-aggregate-put-number-3
-    first-value-requires
-    put-number-requires-3
-    slice-aggregate-put-text
-    put-text-requires
-    same-length
-    returns)
+    (tie.spec slice-aggregate-put-number number-requires (λ c. search needs) put-number-requires slice-aggregate-put-number-2
+    put-number-requires-2 slice-aggregate-put-number-3 first-value-requires put-number-requires-3 slice-aggregate-put-text
+    put-text-requires (λ c. search needs) returns)

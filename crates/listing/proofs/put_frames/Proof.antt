@@ -5,12 +5,12 @@ use native.Mathlib.Omega.{arith}
 use mathlib.Core.Path.{_≡_, sym, _∙_}
 use lib.ListN.{length}
 use borrow.Author.Needs.{needs}
-use Rattle.text.specs.PutLaws.{Leads, leads-start, leads-as, leads-on, leads-last, puts-length}
+use Rattle.text.proofs.PutLaws.{Leads, leads-start, leads-as, leads-on, leads-last, puts-length}
 use Rattle.dss_frame.specs.declared.Rules.the-variants.{Reader}
 use Rattle.dss_frame.specs.Reading.{refused, readAt}
-use Rattle.dss_row.specs.Measures.{Measures, measures, measured-not}
-use Rattle.listing.specs.Lists.{framesText, linesFrom}
-use Rattle.listing.specs.ListLaws.{frames-from, lines-frame, lines-end, lines-refused}
+use Rattle.dss_measure.proofs.Measures.{Measures, measures, measured-not}
+use Rattle.listing.specs.ListTexts.{framesText, linesFrom}
+use Rattle.listing.proofs.ListLaws.{frames-from, lines-frame, lines-end, lines-refused}
 use Rattle.listing.proofs.put_frames.Statement.{statement}
 use Rattle.listing.proofs.put_frames.Tie as tie
 
@@ -22,15 +22,6 @@ abbrev μ-loop : tie.MeasureT-loop
 
 loop-holds : tie.Need-loop-holds Inv-loop μ-loop
 loop-holds c = (omega arith, leads-as (frames-from _) (leads-start _ _ _ (omega arith)))
-
-measure-requires : tie.Need-measure-requires Inv-loop μ-loop
-measure-requires c κs = search needs
-
-enum-known-measure : tie.Need-enum-known-measure Inv-loop μ-loop
-enum-known-measure c = search needs
-
-put-frame-requires : tie.Need-put-frame-requires Inv-loop μ-loop
-put-frame-requires c κs = search needs
 
 -- what the measure is of
 measured : (c : tie.After-known-told Inv-loop μ-loop)
@@ -47,23 +38,14 @@ loop-again c =
     let w = measured k in
     (omega (arith, w), leads-on _ _ (leads-as (lines-frame _ _ _ w) (k .before .before .before .before .loop .inv .1)) (c .before .before .put-frame .ensures))
 
-enum-known-refused : tie.Need-enum-known-refused Inv-loop μ-loop
-enum-known-refused c = search needs
-
 -- the refusal that was found
 not-read : (c : tie.After-known-told2 Inv-loop μ-loop)
     → (let m = c .before .before .before .before in
     readAt Reader (m .before .before .before .args .run .now) (m .loop .position) ≡ refused (c .before .refused .given .0 .0))
 not-read c = measured-not Reader _ _ _ (sym (c .before .before .before .measure .ensures) ∙ c .before .refused .given .1)
 
-not-whole-requires : tie.Need-not-whole-requires Inv-loop μ-loop
-not-whole-requires c κs = search needs
-
 sub-put-end : tie.Need-sub-put-end Inv-loop μ-loop
 sub-put-end c = omega arith
-
-put-end-requires : tie.Need-put-end-requires Inv-loop μ-loop
-put-end-requires c κs = search needs
 
 returns : tie.Need-returns Inv-loop μ-loop
 returns c =
@@ -72,9 +54,6 @@ returns c =
 
 same-length : tie.Need-same-length Inv-loop μ-loop
 same-length c = puts-length (returns c)
-
-put-refused-requires : tie.Need-put-refused-requires Inv-loop μ-loop
-put-refused-requires c κs = search needs
 
 returns-2 : tie.Need-returns-2 Inv-loop μ-loop
 returns-2 c =
@@ -87,21 +66,6 @@ same-length-2 c = puts-length (returns-2 c)
 pub put-frames-spec : {M : Type 1} → statement M
 put-frames-spec =
     tie.close
-    (tie.spec
-    Inv-loop
-    μ-loop
-    loop-holds
-    measure-requires
-    enum-known-measure
-    put-frame-requires
-    loop-less
-    loop-again
-    enum-known-refused
-    not-whole-requires
-    sub-put-end
-    put-end-requires
-    same-length
-    returns
-    put-refused-requires
-    same-length-2
+    (tie.spec Inv-loop μ-loop loop-holds (λ c κs. search needs) (λ c. search needs) (λ c κs. search needs) loop-less loop-again
+    (λ c. search needs) (λ c κs. search needs) sub-put-end (λ c κs. search needs) same-length returns (λ c κs. search needs) same-length-2
     returns-2)

@@ -5,10 +5,10 @@ use native.Mathlib.Omega.{arith}
 use mathlib.Core.Path.{sym, _∙_}
 use lib.ListN.{length}
 use borrow.Author.Needs.{needs}
-use Rattle.text.specs.PutLaws.{Leads, leads-start, leads-as, leads-on, leads-last, puts-length}
-use Rattle.dss_salvage.specs.Stepping.{OnFrame, OnOver, OnLast, on-frame, on-over, on-last, on-end}
-use Rattle.listing.specs.Lists.{salvageText}
-use Rattle.listing.specs.ListLaws.{salvagesFrom, salvages-from, salvages-frame, salvages-over, salvages-last, salvages-end}
+use Rattle.text.proofs.PutLaws.{Leads, leads-start, leads-as, leads-on, leads-last, puts-length}
+use Rattle.dss_salvage.proofs.SalvageStepping.{OnFrame, OnOver, OnLast, on-frame, on-over, on-last, on-end}
+use Rattle.listing.specs.ListTexts.{salvageText}
+use Rattle.listing.proofs.ListLaws.{salvagesFrom, salvages-from, salvages-frame, salvages-over, salvages-last, salvages-end}
 use Rattle.listing.proofs.put_salvage.Statement.{statement}
 use Rattle.listing.proofs.put_salvage.Tie as tie
 
@@ -21,20 +21,11 @@ abbrev μ-loop : tie.MeasureT-loop
 loop-holds : tie.Need-loop-holds Inv-loop μ-loop
 loop-holds c = (omega arith, leads-as (salvages-from _) (leads-start _ _ _ (omega arith)))
 
-entry-at-requires : tie.Need-entry-at-requires Inv-loop μ-loop
-entry-at-requires c κs = search needs
-
-enum-known-measure : tie.Need-enum-known-measure Inv-loop μ-loop
-enum-known-measure c = search needs
-
-put-frame-requires : tie.Need-put-frame-requires Inv-loop μ-loop
-put-frame-requires c κs = search needs
-
 -- the frame that was found
 framed : (c : tie.After-known-told Inv-loop μ-loop)
     → (let m = c .before .before .before .before in
     OnFrame (m .before .before .before .args .run .now) (m .loop .position) (c .before .measure .given .0 .0))
-framed c = on-frame _ _ _ (sym (c .before .before .before .entry-at .ensures) ∙ c .before .measure .given .1)
+framed c = on-frame _ _ _ (sym (c .before .before .before .step-at .ensures) ∙ c .before .measure .given .1)
 
 loop-less : tie.Need-loop-less Inv-loop μ-loop
 loop-less c = let w = framed (c .before .before .before .before) .measured in omega (arith, w)
@@ -45,17 +36,11 @@ loop-again c =
     let w = framed k .measured in
     (omega (arith, w), leads-on _ _ (leads-as (salvages-frame _ _ _ (framed k)) (k .before .before .before .before .loop .inv .1)) (c .before .before .put-frame .ensures))
 
-enum-known-refused : tie.Need-enum-known-refused Inv-loop μ-loop
-enum-known-refused c = search needs
-
-put-refused-requires : tie.Need-put-refused-requires Inv-loop μ-loop
-put-refused-requires c κs = search needs
-
 -- the refusal that is stepped over
 stepped : (c : tie.After-known-told2 Inv-loop μ-loop)
     → (let m = c .before .before .before .before in
     OnOver (m .before .before .before .args .run .now) (m .loop .position) (c .before .refused .given .0 .0) (c .before .refused .given .0 .1 .0))
-stepped c = on-over _ _ _ _ (sym (c .before .before .before .entry-at .ensures) ∙ c .before .refused .given .1)
+stepped c = on-over _ _ _ _ (sym (c .before .before .before .step-at .ensures) ∙ c .before .refused .given .1)
 
 loop-less-2 : tie.Need-loop-less-2 Inv-loop μ-loop
 loop-less-2 c = omega (arith, stepped (c .before .before .before .before))
@@ -66,23 +51,14 @@ loop-again-2 c =
     let w = stepped k in
     (omega (arith, w), leads-on _ _ (leads-as (salvages-over _ _ _ _ w) (k .before .before .before .before .loop .inv .1)) (c .before .before .put-refused .ensures))
 
-enum-known-refused-2 : tie.Need-enum-known-refused-2 Inv-loop μ-loop
-enum-known-refused-2 c = search needs
-
-put-refused-requires-2 : tie.Need-put-refused-requires-2 Inv-loop μ-loop
-put-refused-requires-2 c κs = search needs
-
 -- the refusal that the walk ends at
 lasted : (c : tie.After-known-told3 Inv-loop μ-loop)
     → (let m = c .before .before .before .before in
     OnLast (m .before .before .before .args .run .now) (m .loop .position) (c .before .refused2 .given .0 .0))
-lasted c = on-last _ _ _ (sym (c .before .before .before .entry-at .ensures) ∙ c .before .refused2 .given .1)
+lasted c = on-last _ _ _ (sym (c .before .before .before .step-at .ensures) ∙ c .before .refused2 .given .1)
 
 sub-put-end : tie.Need-sub-put-end Inv-loop μ-loop
 sub-put-end c = omega arith
-
-put-end-requires : tie.Need-put-end-requires Inv-loop μ-loop
-put-end-requires c κs = search needs
 
 returns : tie.Need-returns Inv-loop μ-loop
 returns c =
@@ -92,19 +68,13 @@ returns c =
 same-length : tie.Need-same-length Inv-loop μ-loop
 same-length c = puts-length (returns c)
 
-enum-told : tie.Need-enum-told Inv-loop μ-loop
-enum-told c = search needs
-
 sub-put-end-2 : tie.Need-sub-put-end-2 Inv-loop μ-loop
 sub-put-end-2 c = omega arith
-
-put-end-requires-2 : tie.Need-put-end-requires-2 Inv-loop μ-loop
-put-end-requires-2 c κs = search needs
 
 returns-2 : tie.Need-returns-2 Inv-loop μ-loop
 returns-2 c =
     let l = c .before .before .before .before .before .before .before in
-    leads-last _ (leads-as (salvages-end _ _ (on-end _ _ (sym (c .before .before .before .before .before .before .entry-at .ensures) ∙ c .before .before .before .before .enum-told .given .1))) (l .loop .inv .1)) (c .before .before .put-end2 .ensures)
+    leads-last _ (leads-as (salvages-end _ _ (on-end _ _ (sym (c .before .before .before .before .before .before .step-at .ensures) ∙ c .before .before .before .before .enum-told .given .1))) (l .loop .inv .1)) (c .before .before .put-end2 .ensures)
 
 same-length-2 : tie.Need-same-length-2 Inv-loop μ-loop
 same-length-2 c = puts-length (returns-2 c)
@@ -112,27 +82,6 @@ same-length-2 c = puts-length (returns-2 c)
 pub put-salvage-spec : {M : Type 1} → statement M
 put-salvage-spec =
     tie.close
-    (tie.spec
-    Inv-loop
-    μ-loop
-    loop-holds
-    entry-at-requires
-    enum-known-measure
-    put-frame-requires
-    loop-less
-    loop-again
-    enum-known-refused
-    put-refused-requires
-    loop-less-2
-    loop-again-2
-    enum-known-refused-2
-    put-refused-requires-2
-    sub-put-end
-    put-end-requires
-    same-length
-    returns
-    enum-told
-    sub-put-end-2
-    put-end-requires-2
-    same-length-2
-    returns-2)
+    (tie.spec Inv-loop μ-loop loop-holds (λ c κs. search needs) (λ c. search needs) (λ c κs. search needs) loop-less loop-again
+    (λ c. search needs) (λ c κs. search needs) loop-less-2 loop-again-2 (λ c. search needs) (λ c κs. search needs) sub-put-end
+    (λ c κs. search needs) same-length returns (λ c. search needs) sub-put-end-2 (λ c κs. search needs) same-length-2 returns-2)

@@ -26,9 +26,6 @@ part-read-start c = omega (arith, c .before .loop .inv .1)
 part-read-end : tie.Need-part-read-end Inv-loop μ-loop
 part-read-end c = omega (arith, c .before .loop .inv .1)
 
-read-requires : tie.Need-read-requires Inv-loop μ-loop
-read-requires c κs = search needs
-
 sub-count : tie.Need-sub-count Inv-loop μ-loop
 sub-count c = omega (arith, c .before .before .before .before .before .loop .inv)
 
@@ -37,12 +34,6 @@ part-count-start c = omega arith
 
 part-count-end : tie.Need-part-count-end Inv-loop μ-loop
 part-count-end c = omega arith
-
-count-requires : tie.Need-count-requires Inv-loop μ-loop
-count-requires c κs = search needs
-
-same-length : tie.Need-same-length Inv-loop μ-loop
-same-length c = search needs
 
 returns : tie.Need-returns Inv-loop μ-loop
 returns c = counts _ _ (omega arith)
@@ -56,31 +47,11 @@ loop-less c = omega arith
 loop-again : tie.Need-loop-again Inv-loop μ-loop
 loop-again c = (omega arith, omega arith)
 
-same-length-2 : tie.Need-same-length-2 Inv-loop μ-loop
-same-length-2 c = search needs
-
 returns-2 : tie.Need-returns-2 Inv-loop μ-loop
 returns-2 c = counts _ _ (c .before .loop .inv .1)
 
 pub read-input-spec : {M : Type 1} → statement M
 read-input-spec =
     tie.close
-    (tie.spec
-    Inv-loop
-    μ-loop
-    loop-holds
-    sub-read
-    part-read-start
-    part-read-end
-    read-requires
-    sub-count
-    part-count-start
-    part-count-end
-    count-requires
-    same-length
-    returns
-    add-count
-    loop-less
-    loop-again
-    same-length-2
-    returns-2)
+    (tie.spec Inv-loop μ-loop loop-holds sub-read part-read-start part-read-end (λ c κs. search needs) sub-count part-count-start
+    part-count-end (λ c κs. search needs) (λ c. search needs) returns add-count loop-less loop-again (λ c. search needs) returns-2)

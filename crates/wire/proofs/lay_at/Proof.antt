@@ -7,8 +7,8 @@ use lib.ListN.{length, take, drop, take-append-drop}
 use lib.Seq.{length-take-le}
 use borrow.Author.Needs.{needs}
 use Rattle.wire.specs.Bytes.{splice, laid}
-use Rattle.wire.specs.Splice.{splice-splice, laid-fits, laid-kept}
-use Rattle.wire.specs.Lent.{tail, tail-drop}
+use Rattle.wire.proofs.Splicing.{splice-splice, laid-fits, laid-kept}
+use Rattle.wire.proofs.LentParts.{tail, tail-drop}
 use Rattle.wire.proofs.lay_at.Statement.{statement}
 use Rattle.wire.proofs.lay_at.Tie as tie
 

@@ -1,7 +1,7 @@
 -- `wire::put_u16` meets its contract: two stores lay two bytes down.
 use mathlib.Core.Path.{sym}
 use Rattle.wire.specs.Bytes.{two}
-use Rattle.wire.specs.Splice.{laid-kept, sets-laid}
+use Rattle.wire.proofs.Splicing.{laid-kept, sets-laid}
 use borrow.Author.Needs.{needs}
 use Rattle.wire.proofs.put_u16.Statement.{statement}
 use Rattle.wire.proofs.put_u16.Tie as tie
@@ -10,21 +10,6 @@ use Rattle.wire.proofs.put_u16.Lts as lts
 
 returns : tie.Need-returns
 returns c = sym (laid-kept (c .before .args .room .now) 0 (two (c .before .args .n)) (c .if1 .taken))
-
-cast-room : tie.Need-cast-room
-cast-room c = search needs
-
-slice-write-room : tie.Need-slice-write-room
-slice-write-room c = search needs
-
-cast-room-2 : tie.Need-cast-room-2
-cast-room-2 c = search needs
-
-slice-write-room-2 : tie.Need-slice-write-room-2
-slice-write-room-2 c = search needs
-
-same-length : tie.Need-same-length
-same-length c = search needs
 
 returns-2 : tie.Need-returns-2
 returns-2 c =
@@ -35,11 +20,4 @@ returns-2 c =
 pub put-u16-spec : {M : Type 1} → statement M
 put-u16-spec =
     tie.close
-    (tie.spec
-    returns
-    cast-room
-    slice-write-room
-    cast-room-2
-    slice-write-room-2
-    same-length
-    returns-2)
+    (tie.spec returns (λ c. search needs) (λ c. search needs) (λ c. search needs) (λ c. search needs) (λ c. search needs) returns-2)

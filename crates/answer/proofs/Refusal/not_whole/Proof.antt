@@ -10,9 +10,6 @@ use Rattle.answer.specs.Numbers.{numberOf}
 use Rattle.answer.proofs.Refusal.not_whole.Statement.{statement}
 use Rattle.answer.proofs.Refusal.not_whole.Tie as tie
 
-number-requires : tie.Need-number-requires
-number-requires c κs = search needs
-
 returns : tie.Need-returns
 returns c = sym (ap (λ (n : ℕ). or (eqb n 1) (eqb n 16)) (sym (c .before .number .ensures) ∙ c .if1 .taken))
 
@@ -23,4 +20,4 @@ returns-2 c =
     ap (λ (n : ℕ). eqb n 16) e ∙ sym (ap (λ (b : Bool). or b (eqb w 16)) (ne-eqb w 1 (λ k. c .if1 .left (e ∙ k))))
 
 pub not-whole-spec : {M : Type 1} → statement M
-not-whole-spec = tie.close (tie.spec number-requires returns returns-2)
+not-whole-spec = tie.close (tie.spec (λ c κs. search needs) returns returns-2)

@@ -3,9 +3,9 @@ use Prim.Native.Nat.{_+_, _-_, _≤_}
 use native.Mathlib.Omega.{arith}
 use mathlib.Core.Path.{sym, _∙_}
 use lib.ListN.{length}
-use Rattle.ddm_length.specs.Lent.{lent-laid}
-use Rattle.ddm_builder.specs.Forms.{few-bytes, length-built}
-use Rattle.ddm_builder.specs.Adding.{enough-fits, adds-enough, adds-refused}
+use Rattle.ddm_length.proofs.LentData.{lent-laid}
+use Rattle.ddm_builder.proofs.BuiltForms.{few-bytes, length-built}
+use Rattle.ddm_builder.proofs.AddingLaws.{enough-fits, adds-enough, adds-refused}
 use borrow.Author.Needs.{needs}
 use Rattle.ddm_builder.proofs.DdmBuilder.add_code_point.Statement.{statement}
 use Rattle.ddm_builder.proofs.DdmBuilder.add_code_point.Tie as tie
@@ -15,18 +15,9 @@ room-there : (c : tie.After-enum-told) → let s = c .before .before .before .be
     (s .self .fill ≤ length (s .room .now)) × (c .before .before .before .serialized-header-len .result + length (s .«data» .now) ≤ length (s .room .now) - s .self .fill)
 room-there c = enough-fits _ _ _ (sym (c .before .before .room-for .ensures) ∙ c .enum-told .given .1)
 
-serialized-header-len-requires : tie.Need-serialized-header-len-requires
-serialized-header-len-requires c κs = search needs
-
 add-need : tie.Need-add-need
 add-need c =
     omega (arith, c .serialized-header-len .ensures, few-bytes (length (c .before .before .before .args .«data» .now)), c .before .before .before .good)
-
-room-for-requires : tie.Need-room-for-requires
-room-for-requires c κs = search needs
-
-enum-told : tie.Need-enum-told
-enum-told c = search needs
 
 sub-lay-object : tie.Need-sub-lay-object
 sub-lay-object c = omega (arith, room-there c)
@@ -34,18 +25,9 @@ sub-lay-object c = omega (arith, room-there c)
 part-lay-object-start : tie.Need-part-lay-object-start
 part-lay-object-start c = omega (arith, room-there c)
 
-part-lay-object-end : tie.Need-part-lay-object-end
-part-lay-object-end c = search needs
-
-lay-object-requires : tie.Need-lay-object-requires
-lay-object-requires c κs = search needs
-
 add-t14 : tie.Need-add-t14
 add-t14 c =
     omega (arith, room-there (c .before .before .before .before), c .before .before .before .before .before .before .before .before .before .before .good)
-
-same-length : tie.Need-same-length
-same-length c = search needs
 
 returns : tie.Need-returns
 returns c =
@@ -53,9 +35,6 @@ returns c =
     adds-enough (s .self) _ (s .room .now) _ _ (length-built (s .cp) (s .«data» .now) ∙ omega (arith, c .before .before .before .before .before .before .before .serialized-header-len .ensures))
     (sym (c .before .before .before .before .before .before .room-for .ensures) ∙ c .before .before .before .before .enum-told .given .1)
     (lent-laid _ _ _ _ (room-there (c .before .before .before .before) .0) (c .before .before .lay-object .ensures))
-
-enum-known-r : tie.Need-enum-known-r
-enum-known-r c = search needs
 
 returns-2 : tie.Need-returns-2
 returns-2 c =
@@ -66,17 +45,5 @@ returns-2 c =
 pub add-code-point-spec : {M : Type 1} → statement M
 add-code-point-spec =
     tie.close
-    (tie.spec
-    serialized-header-len-requires
-    add-need
-    room-for-requires
-    enum-told
-    sub-lay-object
-    part-lay-object-start
-    part-lay-object-end
-    lay-object-requires
-    add-t14
-    same-length
-    returns
-    enum-known-r
-    returns-2)
+    (tie.spec (λ c κs. search needs) add-need (λ c κs. search needs) (λ c. search needs) sub-lay-object part-lay-object-start
+    (λ c. search needs) (λ c κs. search needs) add-t14 (λ c. search needs) returns (λ c. search needs) returns-2)

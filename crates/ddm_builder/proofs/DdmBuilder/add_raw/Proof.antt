@@ -3,8 +3,8 @@ use Prim.Native.Nat.{_-_, _≤_}
 use native.Mathlib.Omega.{arith}
 use mathlib.Core.Path.{refl, sym, _∙_}
 use lib.ListN.{length}
-use Rattle.ddm_length.specs.Lent.{lent-laid}
-use Rattle.ddm_builder.specs.Adding.{enough-fits, adds-enough, adds-refused}
+use Rattle.ddm_length.proofs.LentData.{lent-laid}
+use Rattle.ddm_builder.proofs.AddingLaws.{enough-fits, adds-enough, adds-refused}
 use borrow.Author.Needs.{needs}
 use Rattle.ddm_builder.proofs.DdmBuilder.add_raw.Statement.{statement}
 use Rattle.ddm_builder.proofs.DdmBuilder.add_raw.Tie as tie
@@ -13,39 +13,21 @@ use Rattle.ddm_builder.proofs.DdmBuilder.add_raw.Tie as tie
 room-there : (c : tie.After-enum-told) → let s = c .before .before .before .before .before .args in (s .self .fill ≤ length (s .room .now)) × (length (s .«data» .now) ≤ length (s .room .now) - s .self .fill)
 room-there c = enough-fits _ _ _ (sym (c .before .before .room-for .ensures) ∙ c .enum-told .given .1)
 
-room-for-requires : tie.Need-room-for-requires
-room-for-requires c κs = search needs
-
-enum-told : tie.Need-enum-told
-enum-told c = search needs
-
 sub-lay : tie.Need-sub-lay
 sub-lay c = omega (arith, room-there c)
 
 part-lay-start : tie.Need-part-lay-start
 part-lay-start c = omega (arith, room-there c)
 
-part-lay-end : tie.Need-part-lay-end
-part-lay-end c = search needs
-
-lay-requires : tie.Need-lay-requires
-lay-requires c κs = search needs
-
 add-t14 : tie.Need-add-t14
 add-t14 c =
     omega (arith, room-there (c .before .before .before .before), c .before .before .before .before .before .before .before .before .before .good)
-
-same-length : tie.Need-same-length
-same-length c = search needs
 
 returns : tie.Need-returns
 returns c =
     let s = c .before .before .before .before .before .before .before .before .before .args in
     adds-enough (s .self) (s .«data» .now) (s .room .now) _ _ refl (sym (c .before .before .before .before .before .before .room-for .ensures) ∙ c .before .before .before .before .enum-told .given .1)
     (lent-laid _ _ _ _ (room-there (c .before .before .before .before) .0) (c .before .before .lay .ensures))
-
-enum-known-r : tie.Need-enum-known-r
-enum-known-r c = search needs
 
 returns-2 : tie.Need-returns-2
 returns-2 c =
@@ -55,15 +37,5 @@ returns-2 c =
 pub add-raw-spec : {M : Type 1} → statement M
 add-raw-spec =
     tie.close
-    (tie.spec
-    room-for-requires
-    enum-told
-    sub-lay
-    part-lay-start
-    part-lay-end
-    lay-requires
-    add-t14
-    same-length
-    returns
-    enum-known-r
-    returns-2)
+    (tie.spec (λ c κs. search needs) (λ c. search needs) sub-lay part-lay-start (λ c. search needs) (λ c κs. search needs) add-t14
+    (λ c. search needs) returns (λ c. search needs) returns-2)

@@ -2,28 +2,13 @@
 use Prim.Native.Nat.{ℕ}
 use mathlib.Core.Path.{_∙_, subst}
 use mathlib.Core.List.{List}
-use Rattle.wire.specs.Widths.{length-last}
-use Rattle.ddm_length.specs.Lent.{laid-whole}
+use Rattle.wire.proofs.Widths.{length-last}
+use Rattle.ddm_length.proofs.LentData.{laid-whole}
 use Rattle.ddm_builder.specs.Built.{built}
 use Rattle.ddm_builder.specs.Builder.{Adds, parameter32}
 use borrow.Author.Needs.{needs}
 use Rattle.ddm_builder.proofs.DdmBuilder.add_u32.Statement.{statement}
 use Rattle.ddm_builder.proofs.DdmBuilder.add_u32.Tie as tie
-
-slice-aggregate-lay-number : tie.Need-slice-aggregate-lay-number
-slice-aggregate-lay-number c = search needs
-
-lay-number-requires : tie.Need-lay-number-requires
-lay-number-requires c κs = search needs
-
-slice-aggregate-add-code-point : tie.Need-slice-aggregate-add-code-point
-slice-aggregate-add-code-point c = search needs
-
-add-code-point-requires : tie.Need-add-code-point-requires
-add-code-point-requires c κs = search needs
-
-same-length : tie.Need-same-length
-same-length c = search needs
 
 returns : tie.Need-returns
 unfolding parameter32
@@ -35,10 +20,4 @@ returns c =
 pub add-u32-spec : {M : Type 1} → statement M
 add-u32-spec =
     tie.close
-    (tie.spec
-    slice-aggregate-lay-number
-    lay-number-requires
-    slice-aggregate-add-code-point
-    add-code-point-requires
-    same-length
-    returns)
+    (tie.spec (λ c. search needs) (λ c κs. search needs) (λ c. search needs) (λ c κs. search needs) (λ c. search needs) returns)

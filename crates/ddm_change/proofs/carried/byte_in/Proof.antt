@@ -3,7 +3,7 @@ use Prim.Native.Nat.{ℕ}
 use native.Mathlib.Omega.{arith}
 use mathlib.Core.Path.{sym, _∙_, ap}
 use lib.ListN.{getD}
-use Rattle.ddm_change.specs.CarriedLaws.{place-inside, carried-byte}
+use Rattle.ddm_change.proofs.CarriedLaws.{place-inside, carried-byte}
 use Rattle.ddm_change.proofs.carried.byte_in.Statement.{statement}
 use Rattle.ddm_change.proofs.carried.byte_in.Tie as tie
 

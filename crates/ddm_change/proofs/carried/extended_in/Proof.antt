@@ -7,13 +7,13 @@ use mathlib.Core.List.{List}
 use lib.ListN.{length, drop, length-drop}
 use borrow.Author.Tests.{lt-ltb, le-ltb, lt-leb, le-leb}
 use Rattle.wire.specs.Bytes.{part, spelled}
-use Rattle.wire.specs.Laws.{pick-yes, pick-no}
+use Rattle.wire.proofs.WireLaws.{pick-yes, pick-no}
 use Rattle.answer.specs.declared.Refusal.the-variants.{BufferTooShort, LengthTooLarge}
 use Rattle.ddm_length.specs.declared.Marshaled.the-variants.{Takes}
 use Rattle.ddm_length.specs.Lengths.{refuse, extended, extendedTotal}
-use Rattle.ddm_length.specs.Sums.{number-is, number-large}
-use Rattle.ddm_change.specs.Carried.{carried}
-use Rattle.ddm_change.specs.CarriedLaws.{drop-part}
+use Rattle.ddm_length.proofs.NumberSums.{number-is, number-large}
+use Rattle.ddm_change.specs.inner.Carried.{carried}
+use Rattle.ddm_change.proofs.CarriedLaws.{drop-part}
 use borrow.Author.Needs.{needs}
 use Rattle.ddm_change.proofs.carried.extended_in.Statement.{statement}
 use Rattle.ddm_change.proofs.carried.extended_in.Tie as tie
@@ -43,32 +43,11 @@ module _ (v : List ℕ) (at place header : ℕ) (lo : 4 ≤ header) where
 returns : tie.Need-returns
 returns c = sym (pick-yes _ _ (lt-ltb _ _ (c .if1 .taken)))
 
-len-in-requires : tie.Need-len-in-requires
-len-in-requires c κs = search needs
-
-sub-there : tie.Need-sub-there
-sub-there c = search needs
-
 returns-2 : tie.Need-returns-2
 returns-2 c =
     let s = c .before .before .before .before .args in
     short (carried (s .c) (s .run .now)) (s .at) (s .place) (s .header) (c .before .before .if1 .left) _
     (omega (arith, c .before .len-in .ensures)) (c .if2 .taken)
-
-add-number-in : tie.Need-add-number-in
-add-number-in c = search needs
-
-add-number-in-2 : tie.Need-add-number-in-2
-add-number-in-2 c = search needs
-
-number-in-requires : tie.Need-number-in-requires
-number-in-requires c κs = search needs
-
-enum-known-n : tie.Need-enum-known-n
-enum-known-n c = search needs
-
-sub-if3 : tie.Need-sub-if3
-sub-if3 c = search needs
 
 returns-3 : tie.Need-returns-3
 returns-3 c =
@@ -78,9 +57,6 @@ returns-3 c =
     (omega (arith, a .before .before .len-in .ensures, a .before .if2 .left))
     (omega (arith, number-is _ _ (sym (a .number-in .ensures) ∙ c .before .before .n .given .1))))
 
-add-t19 : tie.Need-add-t19
-add-t19 c = search needs
-
 returns-4 : tie.Need-returns-4
 returns-4 c =
     let a = c .before .before .before .before in
@@ -88,9 +64,6 @@ returns-4 c =
     sym (within (carried (s .c) (s .run .now)) (s .at) (s .place) (s .header) (a .before .before .before .if1 .left)
     (omega (arith, a .before .before .len-in .ensures, a .before .if2 .left))
     _ (number-is _ _ (sym (a .number-in .ensures) ∙ c .before .before .n .given .1)) (omega arith))
-
-enum-told : tie.Need-enum-told
-enum-told c = search needs
 
 returns-5 : tie.Need-returns-5
 returns-5 c =
@@ -103,18 +76,5 @@ returns-5 c =
 pub extended-in-spec : {M : Type 1} → statement M
 extended-in-spec =
     tie.close
-    (tie.spec
-    returns
-    len-in-requires
-    sub-there
-    returns-2
-    add-number-in
-    add-number-in-2
-    number-in-requires
-    enum-known-n
-    sub-if3
-    returns-3
-    add-t19
-    returns-4
-    enum-told
-    returns-5)
+    (tie.spec returns (λ c κs. search needs) (λ c. search needs) returns-2 (λ c. search needs) (λ c. search needs) (λ c κs. search needs)
+    (λ c. search needs) (λ c. search needs) returns-3 (λ c. search needs) returns-4 (λ c. search needs) returns-5)

@@ -6,13 +6,13 @@ use mathlib.Core.List.{List}
 use lib.ListN.{length, drop, length-drop}
 use borrow.Author.Tests.{lt-ltb, le-ltb, eq-eqb, ne-eqb}
 use Rattle.wire.specs.Bytes.{be16}
-use Rattle.wire.specs.Laws.{pick-yes, pick-no}
+use Rattle.wire.proofs.WireLaws.{pick-yes, pick-no}
 use Rattle.answer.specs.declared.Refusal.the-variants.{BufferTooShort}
 use Rattle.ddm_length.specs.declared.Marshaled.{Marshaled}
 use Rattle.ddm_length.specs.declared.Marshaled.the-variants.{Takes}
 use Rattle.ddm_length.specs.Lengths.{refuse, extended, marshaled}
-use Rattle.ddm_length.specs.Pieces.{be16-drop}
-use Rattle.ddm_change.specs.Carried.{carried}
+use Rattle.ddm_length.proofs.MarkerPieces.{be16-drop}
+use Rattle.ddm_change.specs.inner.Carried.{carried}
 use borrow.Author.Needs.{needs}
 use Rattle.ddm_change.proofs.carried.length_in.Statement.{statement}
 use Rattle.ddm_change.proofs.carried.length_in.Tie as tie
@@ -54,19 +54,10 @@ module _ (v : List ℕ) (at place n : ℕ) (e : n ≡ length v) where
           ∙ sym (pick-no _ _ (le-ltb (length (drop at v)) 4 four-there) ∙ pick-no _ _ (ne-eqb (be16 (drop at v) 0) 0x8004 not-all)
           ∙ pick-no _ _ (le-ltb (be16 (drop at v) 0) 0x8000 (omega (arith, is))))
 
-len-in-requires : tie.Need-len-in-requires
-len-in-requires c κs = search needs
-
-sub-there : tie.Need-sub-there
-sub-there c = search needs
-
 returns : tie.Need-returns
 returns c =
     let s = c .before .before .before .args in
     short (carried (s .c) (s .run .now)) (s .at) (s .place) _ (c .before .len-in .ensures) (c .if1 .taken)
-
-u16-in-requires : tie.Need-u16-in-requires
-u16-in-requires c κs = search needs
 
 returns-2 : tie.Need-returns-2
 returns-2 c =
@@ -74,18 +65,12 @@ returns-2 c =
     let s = a .before .before .before .args in
     all (carried (s .c) (s .run .now)) (s .at) (s .place) _ (a .before .len-in .ensures) _ (c .before .u16-in .ensures) (a .if1 .left) (c .if2 .taken)
 
-cast-t11 : tie.Need-cast-t11
-cast-t11 c = search needs
-
 returns-3 : tie.Need-returns-3
 returns-3 c =
     let a = c .before .before .before in
     let s = a .before .before .before .args in
     inline (carried (s .c) (s .run .now)) (s .at) (s .place) _ (a .before .len-in .ensures) _ (c .before .before .u16-in .ensures)
     (a .if1 .left) (c .before .if2 .left) (c .if3 .taken)
-
-extended-in-requires : tie.Need-extended-in-requires
-extended-in-requires c κs = search needs
 
 returns-4 : tie.Need-returns-4
 returns-4 c =
@@ -97,13 +82,5 @@ returns-4 c =
 pub length-in-spec : {M : Type 1} → statement M
 length-in-spec =
     tie.close
-    (tie.spec
-    len-in-requires
-    sub-there
-    returns
-    u16-in-requires
-    returns-2
-    cast-t11
-    returns-3
-    extended-in-requires
-    returns-4)
+    (tie.spec (λ c κs. search needs) (λ c. search needs) returns (λ c κs. search needs) returns-2 (λ c. search needs) returns-3
+    (λ c κs. search needs) returns-4)

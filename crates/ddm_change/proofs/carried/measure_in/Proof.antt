@@ -7,18 +7,18 @@ use mathlib.Core.List.{List}
 use lib.ListN.{length, drop, length-drop}
 use borrow.Author.Tests.{lt-ltb, le-ltb, lt-leb, le-leb}
 use Rattle.wire.specs.Bytes.{be16}
-use Rattle.wire.specs.Laws.{pick-yes, pick-no}
+use Rattle.wire.proofs.WireLaws.{pick-yes, pick-no}
 use Rattle.answer.specs.declared.Refusal.the-variants.{BufferTooShort, InlineTooShort}
 use Rattle.ddm_length.specs.declared.Marshaled.the-variants.{Takes}
 use Rattle.ddm_length.specs.Lengths.{refuse, marshaled, measured, fitting}
-use Rattle.ddm_length.specs.Taken.{Says, says-inline, says-all, says-wide, marshaled-says}
-use Rattle.ddm_change.specs.Carried.{carried}
-use Rattle.ddm_change.specs.CarriedLaws.{carried-length, drop-two}
+use Rattle.ddm_length.proofs.TakenLengths.{LengthSays, says-inline, says-all, says-wide, marshaled-says}
+use Rattle.ddm_change.specs.inner.Carried.{carried}
+use Rattle.ddm_change.proofs.CarriedLaws.{carried-length, drop-two}
 use borrow.Author.Needs.{needs}
 use Rattle.ddm_change.proofs.carried.measure_in.Statement.{statement}
 use Rattle.ddm_change.proofs.carried.measure_in.Tie as tie
 
-small : {b : List ℕ} {t h : ℕ} → Says b t h → t < h → (4 ≤ length b) × (t < 65536)
+small : {b : List ℕ} {t h : ℕ} → LengthSays b t h → t < h → (4 ≤ length b) × (t < 65536)
 small (says-inline four et eh hi) l = (four, omega arith)
 small (says-all four raw et eh) l = (four, absurd (omega arith))
 small (says-wide raw lo there et hi) l = absurd (omega arith)
@@ -44,12 +44,6 @@ module _ (v : List ℕ) (at place total header : ℕ) (says : marshaled (drop at
     unfolding measured
     fits h =
         sym (ap (fitting (drop at v) place) says ∙ pick-no _ _ (le-ltb total header l) ∙ pick-yes _ _ (le-leb total (length (drop at v)) (omega (arith, len))))
-
-length-in-requires : tie.Need-length-in-requires
-length-in-requires c κs = search needs
-
-enum-known-total : tie.Need-enum-known-total
-enum-known-total c = search needs
 
 cast-t13 : tie.Need-cast-t13
 cast-t13 c =
@@ -81,12 +75,6 @@ returns c =
     low (carried (s .c) (s .run .now)) (s .at) (s .place) _ _
     (sym (c .before .before .before .before .before .length-in .ensures) ∙ c .before .before .before .total .given .1) _ (c .u16-in .ensures) (c .before .if1 .taken)
 
-len-in-requires : tie.Need-len-in-requires
-len-in-requires c κs = search needs
-
-sub-there : tie.Need-sub-there
-sub-there c = search needs
-
 returns-2 : tie.Need-returns-2
 returns-2 c =
     let s = c .before .before .before .before .before .before .before .before .args in
@@ -101,9 +89,6 @@ returns-3 c =
     (sym (c .before .before .before .before .before .before .length-in .ensures) ∙ c .before .before .before .before .total .given .1)
     _ (c .before .len-in .ensures) (c .before .before .if1 .left) (c .if2 .left)
 
-enum-known-r : tie.Need-enum-known-r
-enum-known-r c = search needs
-
 returns-4 : tie.Need-returns-4
 unfolding measured
 returns-4 c =
@@ -114,16 +99,5 @@ returns-4 c =
 pub measure-in-spec : {M : Type 1} → statement M
 measure-in-spec =
     tie.close
-    (tie.spec
-    length-in-requires
-    enum-known-total
-    cast-t13
-    add-u16-in
-    u16-in-requires
-    returns
-    len-in-requires
-    sub-there
-    returns-2
-    returns-3
-    enum-known-r
-    returns-4)
+    (tie.spec (λ c κs. search needs) (λ c. search needs) cast-t13 add-u16-in u16-in-requires returns (λ c κs. search needs)
+    (λ c. search needs) returns-2 returns-3 (λ c. search needs) returns-4)

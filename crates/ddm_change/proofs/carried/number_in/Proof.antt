@@ -8,9 +8,10 @@ use lib.ListN.{length, getD, take, drop}
 use lib.Seq.{take-all, getD-take, getD-drop}
 use borrow.Author.Tests.{lt-ltb, le-ltb}
 use Rattle.wire.specs.Bytes.{part, spelled}
-use Rattle.wire.specs.Laws.{pick-yes, pick-no, part-length}
-use Rattle.ddm_length.specs.Sums.{numbered, spelled-step, spelled-front}
-use Rattle.ddm_change.specs.Carried.{carried}
+use Rattle.wire.proofs.WireLaws.{pick-yes, pick-no, part-length}
+use Rattle.ddm_length.specs.inner.Numbered.{spelledNumber}
+use Rattle.ddm_length.proofs.NumberSums.{spelled-step, spelled-front}
+use Rattle.ddm_change.specs.inner.Carried.{carried}
 use borrow.Author.Needs.{needs}
 use Rattle.ddm_change.proofs.carried.number_in.Statement.{statement}
 use Rattle.ddm_change.proofs.carried.number_in.Tie as tie
@@ -42,7 +43,7 @@ loop-holds c =
     (omega arith, omega arith, ap (λ (j : ℕ). spelled 0 (take j bs)) z, omega arith)
 
 returns : tie.Need-returns Inv-loop μ-loop
-unfolding numbered
+unfolding spelledNumber
 returns c =
     let l = c .before .before .loop in
     let s = c .before .before .before .before in
@@ -53,21 +54,6 @@ returns c =
       step v (s .args .from) (s .args .to) (l .i) (l .inv .0) (c .before .loop-test .taken) (s .pre .2),
       spelled-front (part v (s .args .from) (s .args .to)) (l .i + 1 - s .args .from),
     ))))
-
-mul-n : tie.Need-mul-n Inv-loop μ-loop
-mul-n c = search needs
-
-byte-in-requires : tie.Need-byte-in-requires Inv-loop μ-loop
-byte-in-requires c κs = search needs
-
-cast-n : tie.Need-cast-n Inv-loop μ-loop
-cast-n c = search needs
-
-add-n : tie.Need-add-n Inv-loop μ-loop
-add-n c = search needs
-
-add-i : tie.Need-add-i Inv-loop μ-loop
-add-i c = search needs
 
 loop-less : tie.Need-loop-less Inv-loop μ-loop
 loop-less c = omega arith
@@ -84,7 +70,7 @@ loop-again c =
     )
 
 returns-2 : tie.Need-returns-2 Inv-loop μ-loop
-unfolding numbered
+unfolding spelledNumber
 returns-2 c =
     let l = c .before .loop in
     let s = c .before .before .before in
@@ -97,16 +83,5 @@ returns-2 c =
 pub number-in-spec : {M : Type 1} → statement M
 number-in-spec =
     tie.close
-    (tie.spec
-    Inv-loop
-    μ-loop
-    loop-holds
-    returns
-    mul-n
-    byte-in-requires
-    cast-n
-    add-n
-    add-i
-    loop-less
-    loop-again
-    returns-2)
+    (tie.spec Inv-loop μ-loop loop-holds returns (λ c. search needs) (λ c κs. search needs) (λ c. search needs) (λ c. search needs)
+    (λ c. search needs) loop-less loop-again returns-2)

@@ -1,15 +1,12 @@
 -- `ddm_change::carried::passed_by` meets its contract: each return is one case.
 use mathlib.Core.Path.{sym}
-use Rattle.ddm_change.specs.CarriedLaws.{passed-none, passed-some, passed-all}
+use Rattle.ddm_change.proofs.CarriedLaws.{passed-none, passed-some, passed-all}
 use borrow.Author.Needs.{needs}
 use Rattle.ddm_change.proofs.carried.passed_by.Statement.{statement}
 use Rattle.ddm_change.proofs.carried.passed_by.Tie as tie
 
 returns : tie.Need-returns
 returns c = sym (passed-none _ _ (c .if1 .taken))
-
-add-cuts : tie.Need-add-cuts
-add-cuts c = search needs
 
 returns-2 : tie.Need-returns-2
 returns-2 c = sym (passed-some _ _ (c .before .if1 .left) (c .if2 .taken))
@@ -18,10 +15,4 @@ returns-3 : tie.Need-returns-3
 returns-3 c = sym (passed-all _ _ (c .before .if1 .left) (c .if2 .left))
 
 pub passed-by-spec : {M : Type 1} → statement M
-passed-by-spec =
-    tie.close
-    (tie.spec
-    returns
-    add-cuts
-    returns-2
-    returns-3)
+passed-by-spec = tie.close (tie.spec returns (λ c. search needs) returns-2 returns-3)

@@ -1,15 +1,12 @@
 -- `ddm_change::carried::place_of` meets its contract.
 use native.Mathlib.Omega.{arith}
-use Rattle.ddm_change.specs.CarriedLaws.{place-is}
+use Rattle.ddm_change.proofs.CarriedLaws.{place-is}
 use borrow.Author.Needs.{needs}
 use Rattle.ddm_change.proofs.carried.place_of.Statement.{statement}
 use Rattle.ddm_change.proofs.carried.place_of.Tie as tie
 
 add-result : tie.Need-add-result
 add-result c = omega (arith, place-is (c .before .args .c) (c .before .args .i), c .before .pre)
-
-passed-by-requires : tie.Need-passed-by-requires
-passed-by-requires c κs = search needs
 
 mul-result : tie.Need-mul-result
 mul-result c = omega (arith, place-is (c .before .before .args .c) (c .before .before .args .i), c .before .before .pre, c .passed-by .ensures)
@@ -21,11 +18,4 @@ returns : tie.Need-returns
 returns c = omega (arith, place-is (c .before .before .args .c) (c .before .before .args .i), c .passed-by .ensures)
 
 pub place-of-spec : {M : Type 1} → statement M
-place-of-spec =
-    tie.close
-    (tie.spec
-    add-result
-    passed-by-requires
-    mul-result
-    add-result-2
-    returns)
+place-of-spec = tie.close (tie.spec add-result (λ c κs. search needs) mul-result add-result-2 returns)

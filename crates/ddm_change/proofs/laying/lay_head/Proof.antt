@@ -5,9 +5,9 @@ use mathlib.Core.Path.{_≡_, refl, ap, _∙_}
 use mathlib.Core.List.{List, _++_}
 use lib.ListN.{length}
 use Rattle.wire.specs.Bytes.{two, part, splice, laid}
-use Rattle.wire.specs.Laws.{part-length}
-use Rattle.wire.specs.Splice.{laid-fits}
-use Rattle.ddm_length.specs.Lent.{laid-next}
+use Rattle.wire.proofs.WireLaws.{part-length}
+use Rattle.wire.proofs.Splicing.{laid-fits}
+use Rattle.ddm_length.proofs.LentData.{laid-next}
 use borrow.Author.Needs.{needs}
 use Rattle.ddm_change.proofs.laying.lay_head.Statement.{statement}
 use Rattle.ddm_change.proofs.laying.lay_head.Tie as tie
@@ -16,27 +16,6 @@ use Rattle.ddm_change.proofs.laying.lay_head.Tie as tie
 headed : (r q s : List ℕ) (raw : ℕ) → 6 ≤ length r → length q ≡ 4 → s ≡ laid r 0 (two raw) → laid s 2 q ≡ splice r 0 (two raw ++ q)
 headed r q s raw h l e =
     ap (λ (v : List ℕ). laid v 2 q) e ∙ laid-next r 0 (two raw) q 2 refl (omega arith) ∙ laid-fits r 0 (two raw ++ q) (omega arith)
-
-raw-first-requires : tie.Need-raw-first-requires
-raw-first-requires c κs = search needs
-
-put-u16-requires : tie.Need-put-u16-requires
-put-u16-requires c κs = search needs
-
-sub-lay-at : tie.Need-sub-lay-at
-sub-lay-at c = search needs
-
-part-lay-at-start : tie.Need-part-lay-at-start
-part-lay-at-start c = search needs
-
-part-lay-at-end : tie.Need-part-lay-at-end
-part-lay-at-end c = search needs
-
-lay-at-requires : tie.Need-lay-at-requires
-lay-at-requires c κs = search needs
-
-same-length : tie.Need-same-length
-same-length c = search needs
 
 returns : tie.Need-returns
 returns c =
@@ -51,12 +30,5 @@ returns c =
 pub lay-head-spec : {M : Type 1} → statement M
 lay-head-spec =
     tie.close
-    (tie.spec
-    raw-first-requires
-    put-u16-requires
-    sub-lay-at
-    part-lay-at-start
-    part-lay-at-end
-    lay-at-requires
-    same-length
-    returns)
+    (tie.spec (λ c κs. search needs) (λ c κs. search needs) (λ c. search needs) (λ c. search needs) (λ c. search needs)
+    (λ c κs. search needs) (λ c. search needs) returns)

@@ -5,15 +5,16 @@ use mathlib.Core.Path.{_≡_, refl, ap, ap₂, _∙_}
 use mathlib.Core.List.{List}
 use lib.ListN.{length}
 use Rattle.wire.specs.Bytes.{part, splice, laid}
-use Rattle.wire.specs.Splice.{splice-length, splice-part, laid-fits}
+use Rattle.wire.proofs.Splicing.{splice-length, splice-part, laid-fits}
 use Rattle.dss_frame.specs.Written.{frameSize}
 use Rattle.ddm_builder.specs.Built.{lengthBytes}
-use Rattle.ddm_builder.specs.Forms.{few-bytes}
-use Rattle.ddm_builder.specs.Headers.{headerOf, length-header}
-use Rattle.ddm_change.specs.Carried.{carried}
-use Rattle.ddm_change.specs.ChangeLaws.{plainly, plain-carried, plain-sound}
-use Rattle.ddm_change.specs.Outlay.{outlaid}
-use Rattle.ddm_change.specs.Lying.{outlaid-fits}
+use Rattle.ddm_builder.proofs.BuiltForms.{few-bytes}
+use Rattle.ddm_builder.specs.Headers.{headerOf}
+use Rattle.ddm_builder.proofs.HeaderLaws.{length-header}
+use Rattle.ddm_change.specs.inner.Carried.{carried}
+use Rattle.ddm_change.proofs.ChangeLaws.{plainly, plain-carried, plain-sound}
+use Rattle.ddm_change.specs.inner.Outlay.{outlaid}
+use Rattle.ddm_change.proofs.Lying.{outlaid-fits}
 use borrow.Author.Needs.{needs}
 use Rattle.ddm_change.proofs.laying.lay_header.Statement.{statement}
 use Rattle.ddm_change.proofs.laying.lay_header.Tie as tie
@@ -35,18 +36,6 @@ module _ (r h : List ℕ) (cp n : ℕ) (l : length r ≡ 12) (e : h ≡ laid r 0
       q
       ∙ ap (λ (b : List ℕ). splice old (frameSize at) (outlaid len at b))
       (ap₂ (λ (s : List ℕ) (m : ℕ). part s 0 m) (plain-carried h ∙ held) z ∙ splice-part r 0 (headerOf cp n) (omega arith))
-
-slice-aggregate-lay-header : tie.Need-slice-aggregate-lay-header
-slice-aggregate-lay-header c = search needs
-
-lay-header-requires : tie.Need-lay-header-requires
-lay-header-requires c κs = search needs
-
-serialized-header-len-requires : tie.Need-serialized-header-len-requires
-serialized-header-len-requires c κs = search needs
-
-slice-aggregate-lay-part : tie.Need-slice-aggregate-lay-part
-slice-aggregate-lay-part c = search needs
 
 lay-part-requires : tie.Need-lay-part-requires
 lay-part-requires c κs =
@@ -76,11 +65,4 @@ same-length c =
 pub lay-header-spec : {M : Type 1} → statement M
 lay-header-spec =
     tie.close
-    (tie.spec
-    slice-aggregate-lay-header
-    lay-header-requires
-    serialized-header-len-requires
-    slice-aggregate-lay-part
-    lay-part-requires
-    same-length
-    returns)
+    (tie.spec (λ c. search needs) (λ c κs. search needs) (λ c κs. search needs) (λ c. search needs) lay-part-requires same-length returns)

@@ -5,11 +5,11 @@ use native.Mathlib.Omega.{arith}
 use mathlib.Core.Path.{_≡_, sym, ap, _∙_}
 use mathlib.Core.List.{List}
 use lib.ListN.{length, take, drop}
-use Rattle.wire.specs.Laws.{part-length}
-use Rattle.ddm_change.specs.Carried.{carried, placeOf, uncut, pieceOf}
-use Rattle.ddm_change.specs.CarriedLaws.{carried-piece}
-use Rattle.ddm_change.specs.OutlayLaws.{step-is}
-use Rattle.ddm_change.specs.Lying.{Lying, lying-none, lying-length, lying-more, lying-all}
+use Rattle.wire.proofs.WireLaws.{part-length}
+use Rattle.ddm_change.specs.inner.Carried.{carried, placeOf, uncut, pieceOf}
+use Rattle.ddm_change.proofs.CarriedLaws.{carried-piece}
+use Rattle.ddm_change.proofs.OutlayLaws.{step-is}
+use Rattle.ddm_change.proofs.Lying.{Lying, lying-none, lying-length, lying-more, lying-all}
 use borrow.Author.Needs.{needs}
 use Rattle.ddm_change.proofs.laying.lay_part.Statement.{statement}
 use Rattle.ddm_change.proofs.laying.lay_part.Tie as tie
@@ -63,23 +63,11 @@ module _ (c : tie.After-step-of Inv-loop μ-loop) where
 loop-holds : tie.Need-loop-holds Inv-loop μ-loop
 loop-holds c = let s = c .before .before in lying-none _ _ _ _ _ _ (s .pre .1)
 
-sub-step-of : tie.Need-sub-step-of Inv-loop μ-loop
-sub-step-of c = search needs
-
-step-of-requires : tie.Need-step-of-requires Inv-loop μ-loop
-step-of-requires c κs = search needs
-
 place-of-requires : tie.Need-place-of-requires Inv-loop μ-loop
 place-of-requires c κs = omega (arith, there c .1, start (loop c) .good)
 
 add-lay-piece : tie.Need-add-lay-piece Inv-loop μ-loop
 add-lay-piece c = omega (arith, there (c .before) .1, c .place-of .ensures, start (loop (c .before)) .good)
-
-sub-lay-piece : tie.Need-sub-lay-piece Inv-loop μ-loop
-sub-lay-piece c = search needs
-
-part-lay-piece-start : tie.Need-part-lay-piece-start Inv-loop μ-loop
-part-lay-piece-start c = search needs
 
 part-lay-piece-end : tie.Need-part-lay-piece-end Inv-loop μ-loop
 part-lay-piece-end c = omega (arith, there (c .before) .1, c .place-of .ensures)
@@ -138,21 +126,5 @@ returns c =
 pub lay-part-spec : {M : Type 1} → statement M
 lay-part-spec =
     tie.close
-    (tie.spec
-    Inv-loop
-    μ-loop
-    loop-holds
-    sub-step-of
-    step-of-requires
-    place-of-requires
-    add-lay-piece
-    sub-lay-piece
-    part-lay-piece-start
-    part-lay-piece-end
-    lay-piece-requires
-    add-i
-    add-j
-    loop-less
-    loop-again
-    same-length
-    returns)
+    (tie.spec Inv-loop μ-loop loop-holds (λ c. search needs) (λ c κs. search needs) place-of-requires add-lay-piece (λ c. search needs)
+    (λ c. search needs) part-lay-piece-end lay-piece-requires add-i add-j loop-less loop-again same-length returns)

@@ -4,12 +4,12 @@ use native.Mathlib.Omega.{arith}
 use mathlib.Core.Path.{_≡_, sym, ap, _∙_}
 use mathlib.Core.List.{List}
 use lib.ListN.{length}
-use Rattle.wire.specs.Splice.{splice-length}
+use Rattle.wire.proofs.Splicing.{splice-length}
 use Rattle.dss_frame.specs.Written.{frameSize}
-use Rattle.ddm_length.specs.Lent.{lent-laid}
-use Rattle.ddm_change.specs.ChangeLaws.{capped-exact}
-use Rattle.ddm_change.specs.Outlay.{outlaid}
-use Rattle.ddm_change.specs.Lying.{outlaid-fits, lays-between, lays-starting}
+use Rattle.ddm_length.proofs.LentData.{lent-laid}
+use Rattle.ddm_change.proofs.ChangeLaws.{capped-exact}
+use Rattle.ddm_change.specs.inner.Outlay.{outlaid}
+use Rattle.ddm_change.proofs.Lying.{outlaid-fits, lays-between, lays-starting}
 use borrow.Author.Needs.{needs}
 use Rattle.ddm_change.proofs.laying.lay_piece.Statement.{statement}
 use Rattle.ddm_change.proofs.laying.lay_piece.Tie as tie
@@ -34,34 +34,16 @@ module _ (c : tie.After-frame-size) where
   marked : c .frame-size .result ≡ frameSize at
   marked = capped-exact (frameSize at) (c .frame-size .result) (c .frame-size .ensures) (omega (arith, fits, c .before .before .before .good))
 
-frame-size-requires : tie.Need-frame-size-requires
-frame-size-requires c κs = search needs
-
-starts-at-requires : tie.Need-starts-at-requires
-starts-at-requires c κs = search needs
-
 sub-put-u16 : tie.Need-sub-put-u16
 sub-put-u16 c = omega (arith, fits (c .before .before), marked (c .before .before))
 
 part-put-u16-start : tie.Need-part-put-u16-start
 part-put-u16-start c = omega (arith, fits (c .before .before), marked (c .before .before))
 
-part-put-u16-end : tie.Need-part-put-u16-end
-part-put-u16-end c = search needs
-
-raw-at-requires : tie.Need-raw-at-requires
-raw-at-requires c κs = search needs
-
-put-u16-requires : tie.Need-put-u16-requires
-put-u16-requires c κs = search needs
-
 add-lay-at : tie.Need-add-lay-at
 add-lay-at c =
     let a = c .before .before .before .before .before .before .before .before in
     omega (arith, fits a, marked a, a .before .before .before .good)
-
-lay-at-requires : tie.Need-lay-at-requires
-lay-at-requires c κs = search needs
 
 returns : tie.Need-returns
 returns c =
@@ -80,9 +62,6 @@ same-length c =
     let a = c .before .before .before .before .before .before .before .before .before .before .before in
     ap length (returns c) ∙ splice-length (old a) (frameSize (at a)) (outlaid (len a) (at a) (bytes a)) (fits a)
 
-lay-at-requires-2 : tie.Need-lay-at-requires-2
-lay-at-requires-2 c κs = search needs
-
 returns-2 : tie.Need-returns-2
 returns-2 c =
     let a = c .before .before .before .before .before .before in
@@ -99,18 +78,5 @@ same-length-2 c =
 pub lay-piece-spec : {M : Type 1} → statement M
 lay-piece-spec =
     tie.close
-    (tie.spec
-    frame-size-requires
-    starts-at-requires
-    sub-put-u16
-    part-put-u16-start
-    part-put-u16-end
-    raw-at-requires
-    put-u16-requires
-    add-lay-at
-    lay-at-requires
-    same-length
-    returns
-    lay-at-requires-2
-    same-length-2
-    returns-2)
+    (tie.spec (λ c κs. search needs) (λ c κs. search needs) sub-put-u16 part-put-u16-start (λ c. search needs) (λ c κs. search needs)
+    (λ c κs. search needs) add-lay-at (λ c κs. search needs) same-length returns (λ c κs. search needs) same-length-2 returns-2)

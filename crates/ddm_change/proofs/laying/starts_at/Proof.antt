@@ -5,7 +5,7 @@ use mathlib.Core.Bool.{Bool}
 use lib.Dec.{eqb}
 use borrow.Author.Tests.{le-leb}
 use Rattle.wire.specs.Bytes.{and}
-use Rattle.ddm_change.specs.OutlayLaws.{starts-before}
+use Rattle.ddm_change.proofs.OutlayLaws.{starts-before}
 use Rattle.ddm_change.proofs.laying.starts_at.Statement.{statement}
 use Rattle.ddm_change.proofs.laying.starts_at.Tie as tie
 

@@ -3,15 +3,9 @@ use mathlib.Core.Path.{_≡_, sym, _∙_}
 use borrow.Author.Needs.{needs}
 use Rattle.dss_head.specs.Heads.{headAt}
 use Rattle.dss_head.specs.declared.HeadFound.the-variants.{Head}
-use Rattle.ddm_change.specs.AloneLaws.{alone-refused, alone-length, alone-stands}
+use Rattle.ddm_change.proofs.AloneLaws.{alone-refused, alone-length, alone-stands}
 use Rattle.ddm_change.proofs.request.alone_head.Statement.{statement}
 use Rattle.ddm_change.proofs.request.alone_head.Tie as tie
-
-head-at-requires : tie.Need-head-at-requires
-head-at-requires c κs = search needs
-
-enum-known-refused : tie.Need-enum-known-refused
-enum-known-refused c = search needs
 
 returns : tie.Need-returns
 returns c =
@@ -19,15 +13,6 @@ returns c =
     let start = f .before .before in
     let a = start .args in
     sym (alone-refused (a .frame .now) (a .end) (a .segments) (a .payload-len) (start .pre) _ (sym (c .before .refused .given .1) ∙ f .head-at .ensures))
-
-enum-told : tie.Need-enum-told
-enum-told c = search needs
-
-u16-at-requires : tie.Need-u16-at-requires
-u16-at-requires c κs = search needs
-
-cast-if1 : tie.Need-cast-if1
-cast-if1 c = search needs
 
 -- the head that was found
 found : (c : tie.After-u16-at) → (let a = c .before .before .before .before .before .args in Head (c .before .enum-told .given .0 .0) ≡ headAt (a .frame .now) 0)
@@ -50,12 +35,5 @@ returns-3 c =
 pub alone-head-spec : {M : Type 1} → statement M
 alone-head-spec =
     tie.close
-    (tie.spec
-    head-at-requires
-    enum-known-refused
-    returns
-    enum-told
-    u16-at-requires
-    cast-if1
-    returns-2
+    (tie.spec (λ c κs. search needs) (λ c. search needs) returns (λ c. search needs) (λ c κs. search needs) (λ c. search needs) returns-2
     returns-3)

@@ -5,19 +5,19 @@ use mathlib.Core.Path.{_≡_, refl, _∙_, ap}
 use mathlib.Core.List.{List, [], _++_}
 use lib.ListN.{length, length-append}
 use Rattle.wire.specs.Bytes.{two, part, splice}
-use Rattle.wire.specs.Laws.{part-length}
-use Rattle.wire.specs.Splice.{splice-length}
+use Rattle.wire.proofs.WireLaws.{part-length}
+use Rattle.wire.proofs.Splicing.{splice-length}
 use Rattle.dss_frame.specs.Written.{frameSize}
 use Rattle.ddm_builder.specs.Built.{lengthBytes}
 use Rattle.ddm_builder.specs.Headers.{headerOf}
-use Rattle.ddm_change.specs.Carried.{carried}
-use Rattle.ddm_change.specs.ChangeLaws.{plainly, plain-carried, plain-part, plain-sound}
-use Rattle.ddm_change.specs.Outlay.{rawFirst, outlaid}
-use Rattle.ddm_change.specs.OutlayLaws.{frame-size-grows, size-none}
-use Rattle.ddm_change.specs.Reframing.{reframed-length}
+use Rattle.ddm_change.specs.inner.Carried.{carried}
+use Rattle.ddm_change.proofs.ChangeLaws.{plainly, plain-carried, plain-part, plain-sound}
+use Rattle.ddm_change.specs.inner.Outlay.{rawFirst, outlaid}
+use Rattle.ddm_change.proofs.OutlayLaws.{frame-size-grows, size-none}
+use Rattle.ddm_change.proofs.Reframing.{reframed-length}
 use Rattle.ddm_change.specs.Request.{reframed}
-use Rattle.ddm_change.specs.Planning.{carriageOf, payloadAfter, Laying}
-use Rattle.ddm_change.specs.Laid.{Holds, holds-none, holds-length, holds-more, few, sizes, payload-length, laid-frame}
+use Rattle.ddm_change.specs.inner.Planning.{carriageOf, payloadAfter, LayingRequest}
+use Rattle.ddm_change.proofs.LaidOut.{Holds, holds-none, holds-length, holds-more, few, sizes, payload-length, laid-frame}
 use Rattle.ddm_change.specs.declared.Plan.{Plan}
 use borrow.Author.Needs.{needs}
 use Rattle.ddm_change.proofs.request.lay.Statement.{statement}
@@ -42,7 +42,7 @@ module _ (s : tie.Start) where
   abbrev n : ℕ
   n = plan .«payload_len»
 
-  laying : Laying frame cp (length new) plan
+  laying : LayingRequest frame cp (length new) plan
   laying = s .pre .0
 
   fits : frameSize n ≤ length room
@@ -215,9 +215,6 @@ lay-header-requires c κs =
     let d = c .before .before in
     (omega (arith, sized (start1 d)), omega (arith, fits (start1 d), length1 d))
 
-serialized-header-len-requires : tie.Need-serialized-header-len-requires
-serialized-header-len-requires c κs = search needs
-
 lay-part-requires : tie.Need-lay-part-requires
 lay-part-requires c κs =
     let d = c .before .before .before in
@@ -240,9 +237,6 @@ lay-header-requires-2 : tie.Need-lay-header-requires-2
 lay-header-requires-2 c κs =
     let d = c .before .before .before in
     (omega (arith, sized (start3 d), header1 d), omega (arith, fits (start3 d), length3 d))
-
-serialized-header-len-requires-2 : tie.Need-serialized-header-len-requires-2
-serialized-header-len-requires-2 c κs = search needs
 
 add-d : tie.Need-add-d
 add-d c =
@@ -284,18 +278,5 @@ returns c = all c
 pub lay-spec : {M : Type 1} → statement M
 lay-spec =
     tie.close
-    (tie.spec
-    lay-head-requires
-    lay-header-requires
-    serialized-header-len-requires
-    lay-part-requires
-    sub-b
-    add-b
-    lay-header-requires-2
-    serialized-header-len-requires-2
-    add-d
-    lay-part-requires-2
-    add-lay-part
-    lay-part-requires-3
-    same-length
-    returns)
+    (tie.spec lay-head-requires lay-header-requires (λ c κs. search needs) lay-part-requires sub-b add-b lay-header-requires-2
+    (λ c κs. search needs) add-d lay-part-requires-2 add-lay-part lay-part-requires-3 same-length returns)

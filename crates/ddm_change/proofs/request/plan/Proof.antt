@@ -1,27 +1,15 @@
 -- `ddm_change::request::plan` meets its contract: the refusals of reading the one frame, and by what `plan_object` ensures.
 use mathlib.Core.Path.{sym, _∙_}
 use borrow.Author.Needs.{needs}
-use Rattle.ddm_change.specs.PlanFrame.{standing, request-refused}
+use Rattle.ddm_change.proofs.PlanFrame.{standing, request-refused}
 use Rattle.ddm_change.proofs.request.plan.Statement.{statement}
 use Rattle.ddm_change.proofs.request.plan.Tie as tie
-
-alone-requires : tie.Need-alone-requires
-alone-requires c κs = search needs
-
-enum-known-end : tie.Need-enum-known-end
-enum-known-end c = search needs
 
 plan-object-requires : tie.Need-plan-object-requires
 plan-object-requires c κs =
     let f = c .before .before .before in
     let start = f .before .before in
     (standing (start .args .frame .now) _ _ (sym (f .alone .ensures) ∙ c .before .end .given .1), start .pre)
-
-enum-known-r : tie.Need-enum-known-r
-enum-known-r c = search needs
-
-returns : tie.Need-returns
-returns c = search needs
 
 returns-2 : tie.Need-returns-2
 returns-2 c =
@@ -32,10 +20,4 @@ returns-2 c =
 pub plan-spec : {M : Type 1} → statement M
 plan-spec =
     tie.close
-    (tie.spec
-    alone-requires
-    enum-known-end
-    plan-object-requires
-    enum-known-r
-    returns
-    returns-2)
+    (tie.spec (λ c κs. search needs) (λ c. search needs) plan-object-requires (λ c. search needs) (λ c. search needs) returns-2)

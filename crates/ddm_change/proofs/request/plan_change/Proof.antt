@@ -3,9 +3,9 @@ use native.Mathlib.Omega.{arith}
 use mathlib.Core.Path.{_≡_, sym, ap, _∙_}
 use borrow.Author.Needs.{needs}
 use lib.ListN.{drop}
-use Rattle.ddm_change.specs.PlanParam.{search-found, search-nowhere, search-fault, fault-place, found-place}
-use Rattle.ddm_change.specs.Carried.{carried}
-use Rattle.ddm_change.specs.Searching.{searched}
+use Rattle.ddm_change.proofs.PlanParam.{search-found, search-nowhere, search-fault, fault-place, found-place}
+use Rattle.ddm_change.specs.inner.Carried.{carried}
+use Rattle.ddm_change.specs.inner.Searching.{searched}
 use Rattle.ddm_change.specs.declared.Searched.{Searched}
 use Rattle.ddm_change.specs.declared.Searched.the-variants.{Sound, Fault}
 use Rattle.ddm_change.specs.declared.Spot.the-variants.{At}
@@ -27,15 +27,6 @@ found c =
 
 fault : (c : tie.After-at) → searches (c .before .before) ≡ Fault (c .at .given .0 .0)
 fault c = sym (c .before .before .search .ensures) ∙ c .at .given .1
-
-search-requires : tie.Need-search-requires
-search-requires c κs = search needs
-
-enum-known-spot : tie.Need-enum-known-spot
-enum-known-spot c = search needs
-
-enum-known-spot-2 : tie.Need-enum-known-spot-2
-enum-known-spot-2 c = search needs
 
 add-plan-found : tie.Need-add-plan-found
 add-plan-found c =
@@ -65,12 +56,6 @@ plan-found-requires c κs =
       start .pre .1,
     )
 
-enum-told : tie.Need-enum-told
-enum-told c = search needs
-
-enum-known-at : tie.Need-enum-known-at
-enum-known-at c = search needs
-
 add-place-of : tie.Need-add-place-of
 add-place-of c =
     let start = started (c .before .before .before) in
@@ -90,12 +75,6 @@ place-of-requires c κs =
       fault-place (a .frame .now) (a .c) (a .first) (start .pre .0) (a .code-point) _ (fault (c .before)),
       start .good,
     )
-
-unsound-requires : tie.Need-unsound-requires
-unsound-requires c κs = search needs
-
-returns : tie.Need-returns
-returns c = search needs
 
 returns-2 : tie.Need-returns-2
 returns-2 c =
@@ -117,18 +96,5 @@ returns-3 c =
 pub plan-change-spec : {M : Type 1} → statement M
 plan-change-spec =
     tie.close
-    (tie.spec
-    search-requires
-    enum-known-spot
-    enum-known-spot-2
-    add-plan-found
-    add-plan-found-2
-    plan-found-requires
-    enum-told
-    enum-known-at
-    add-place-of
-    place-of-requires
-    unsound-requires
-    returns
-    returns-2
-    returns-3)
+    (tie.spec (λ c κs. search needs) (λ c. search needs) (λ c. search needs) add-plan-found add-plan-found-2 plan-found-requires
+    (λ c. search needs) (λ c. search needs) add-place-of place-of-requires (λ c κs. search needs) (λ c. search needs) returns-2 returns-3)

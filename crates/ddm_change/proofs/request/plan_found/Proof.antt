@@ -2,7 +2,7 @@
 use native.Mathlib.Omega.{arith}
 use mathlib.Core.Path.{sym, _∙_}
 use borrow.Author.Needs.{needs}
-use Rattle.ddm_change.specs.PlanSizes.{found-unreadable, found-laying}
+use Rattle.ddm_change.proofs.PlanSizes.{found-unreadable, found-laying}
 use Rattle.ddm_change.proofs.request.plan_found.Statement.{statement}
 use Rattle.ddm_change.proofs.request.plan_found.Tie as tie
 

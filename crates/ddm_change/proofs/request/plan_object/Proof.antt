@@ -7,11 +7,10 @@ use lib.ListN.{length, take}
 use lib.Seq.{length-take-le}
 use Rattle.ddm_length.specs.Lengths.{measured}
 use Rattle.ddm_length.specs.declared.Marshaled.the-variants.{Takes, Refused as Refuses}
-use Rattle.ddm_change.specs.Carried.{carried}
-use Rattle.ddm_change.specs.FramesCarried.{carriageIn}
-use Rattle.ddm_change.specs.PlanFrame.{Decides, standing-some, decides}
-use Rattle.ddm_change.specs.PlanObject.{over-place, refused-behind, refused-object}
-use Rattle.ddm_change.specs.PlanObject.{object-over, object-behind, object-sound, object-four, object-raw, object-data}
+use Rattle.ddm_change.specs.inner.Carried.{carried}
+use Rattle.ddm_change.proofs.FramesCarried.{carriageIn}
+use Rattle.ddm_change.proofs.PlanFrame.{Decides, standing-some, decides}
+use Rattle.ddm_change.proofs.PlanObject.{over-place, refused-behind, refused-object, object-over, object-behind, object-sound, object-four, object-raw, object-data}
 use Rattle.ddm_change.proofs.request.plan_object.Statement.{statement}
 use Rattle.ddm_change.proofs.request.plan_object.Tie as tie
 
@@ -43,9 +42,6 @@ slice-aggregate-measure-in c =
 measure-in-requires : tie.Need-measure-in-requires
 measure-in-requires c κs = (decided (c .before .before) .sound, omega arith)
 
-enum-known-total : tie.Need-enum-known-total
-enum-known-total c = search needs
-
 slice-aggregate-len-in : tie.Need-slice-aggregate-len-in
 slice-aggregate-len-in c =
     let start = c .before .before .before .before .before .before .before in
@@ -66,9 +62,6 @@ place-of-requires c κs =
       start .good,
     )
 
-unsound-requires : tie.Need-unsound-requires
-unsound-requires c κs = search needs
-
 returns : tie.Need-returns
 returns c =
     let l = c .before .before .before in
@@ -77,9 +70,6 @@ returns c =
     rw (c .unsound .ensures, c .before .place-of .ensures)
     (λ new q. object-over (a .frame .now) (a .end) (carriageIn (a .segments)) (decided start) _ _ (taken l)
     (omega (arith, l .len-in .ensures, c .before .before .if1 .taken)) (a .code-point) new)
-
-unsound-requires-2 : tie.Need-unsound-requires-2
-unsound-requires-2 c κs = search needs
 
 returns-2 : tie.Need-returns-2
 returns-2 c =
@@ -100,9 +90,6 @@ u16-in-requires c κs =
       object-sound (a .frame .now) (a .end) (carriageIn (a .segments)) (decided start) _ _ (taken l) all (c .if2 .left),
       omega (arith, object-four (a .frame .now) (a .end) (carriageIn (a .segments)) (decided start) _ _ (taken l) all (c .if2 .left)),
     )
-
-unsound-requires-3 : tie.Need-unsound-requires-3
-unsound-requires-3 c κs = search needs
 
 returns-3 : tie.Need-returns-3
 returns-3 c =
@@ -126,15 +113,6 @@ plan-change-requires c κs =
       start .pre .1,
     )
 
-returns-4 : tie.Need-returns-4
-returns-4 c = search needs
-
-enum-known-r : tie.Need-enum-known-r
-enum-known-r c = search needs
-
-unsound-requires-4 : tie.Need-unsound-requires-4
-unsound-requires-4 c κs = search needs
-
 returns-5 : tie.Need-returns-5
 returns-5 c =
     let r = c .before .before .before in
@@ -155,24 +133,6 @@ returns-6 c =
 pub plan-object-spec : {M : Type 1} → statement M
 plan-object-spec =
     tie.close
-    (tie.spec
-    sub-t10
-    slice-aggregate-measure-in
-    measure-in-requires
-    enum-known-total
-    slice-aggregate-len-in
-    len-in-requires
-    place-of-requires
-    unsound-requires
-    returns
-    unsound-requires-2
-    returns-2
-    u16-in-requires
-    unsound-requires-3
-    returns-3
-    plan-change-requires
-    returns-4
-    enum-known-r
-    unsound-requires-4
-    returns-5
-    returns-6)
+    (tie.spec sub-t10 slice-aggregate-measure-in measure-in-requires (λ c. search needs) slice-aggregate-len-in len-in-requires
+    place-of-requires (λ c κs. search needs) returns (λ c κs. search needs) returns-2 u16-in-requires (λ c κs. search needs) returns-3
+    plan-change-requires (λ c. search needs) (λ c. search needs) (λ c κs. search needs) returns-5 returns-6)

@@ -1,7 +1,7 @@
 -- `ddm_change::search::met_behind` meets its contract.
 use mathlib.Core.Path.{sym, _∙_, ap}
-use Rattle.ddm_change.specs.Searching.{meets}
-use Rattle.ddm_change.specs.SearchLaws.{meets-yes, meets-no}
+use Rattle.ddm_change.specs.inner.Searching.{meets}
+use Rattle.ddm_change.proofs.SearchLaws.{meets-yes, meets-no}
 use borrow.Author.Needs.{needs}
 use Rattle.ddm_change.proofs.search.met_behind.Statement.{statement}
 use Rattle.ddm_change.proofs.search.met_behind.Tie as tie

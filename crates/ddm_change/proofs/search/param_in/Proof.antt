@@ -3,10 +3,10 @@ use Prim.Native.Nat.{ℕ}
 use native.Mathlib.Omega.{arith}
 use mathlib.Core.Path.{sym, _∙_, ap}
 use lib.ListN.{length-drop}
-use Rattle.ddm_length.specs.Pieces.{be16-drop}
-use Rattle.ddm_change.specs.Carried.{carried}
-use Rattle.ddm_change.specs.CarriedLaws.{carried-length, drop-two}
-use Rattle.ddm_change.specs.SearchLaws.{param-refused, param-raw, param-takes, measured-four}
+use Rattle.ddm_length.proofs.MarkerPieces.{be16-drop}
+use Rattle.ddm_change.specs.inner.Carried.{carried}
+use Rattle.ddm_change.proofs.CarriedLaws.{carried-length, drop-two}
+use Rattle.ddm_change.proofs.SearchLaws.{param-refused, param-raw, param-takes, measured-four}
 use Rattle.ddm_change.specs.declared.Param.the-variants.{Takes}
 use borrow.Author.Needs.{needs}
 use Rattle.ddm_change.proofs.search.param_in.Statement.{statement}
@@ -14,9 +14,6 @@ use Rattle.ddm_change.proofs.search.param_in.Tie as tie
 
 measure-in-requires : tie.Need-measure-in-requires
 measure-in-requires c κs = c .before .pre
-
-enum-known-total : tie.Need-enum-known-total
-enum-known-total c = search needs
 
 u16-in-requires : tie.Need-u16-in-requires
 u16-in-requires c κs =
@@ -55,22 +52,11 @@ returns-2 c =
     ap (λ (n : ℕ). Takes n (c .before .before .before .before .total .given .0 .0)) (c .u16-in2 .ensures ∙ sym (drop-two v (s .at) 2))
     ∙ sym (param-takes _ _ _ e (λ z. c .before .if1 .left (c .before .before .u16-in .ensures ∙ sym (be16-drop v (s .at)) ∙ z)))
 
-enum-told : tie.Need-enum-told
-enum-told c = search needs
-
 returns-3 : tie.Need-returns-3
 returns-3 c = sym (param-refused _ _ (sym (c .before .before .measure-in .ensures) ∙ c .enum-told .given .1))
 
 pub param-in-spec : {M : Type 1} → statement M
 param-in-spec =
     tie.close
-    (tie.spec
-    measure-in-requires
-    enum-known-total
-    u16-in-requires
-    returns
-    add-u16-in
-    u16-in-requires-2
-    returns-2
-    enum-told
+    (tie.spec measure-in-requires (λ c. search needs) u16-in-requires returns add-u16-in u16-in-requires-2 returns-2 (λ c. search needs)
     returns-3)

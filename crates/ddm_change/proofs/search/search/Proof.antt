@@ -5,11 +5,11 @@ use mathlib.Core.Path.{sym, _∙_, ap}
 use mathlib.Core.List.{List}
 use lib.ListN.{length, drop, length-drop}
 use lib.Seq.{drop-drop}
-use Rattle.ddm_object.specs.Walks.{sized}
-use Rattle.ddm_change.specs.Carried.{carried}
-use Rattle.ddm_change.specs.CarriedLaws.{carried-length}
-use Rattle.ddm_change.specs.Searching.{paramOf}
-use Rattle.ddm_change.specs.SearchLaws.{Sane, sane, Searching, searching-start, searching-step, searching-fault, searching-end}
+use Rattle.ddm_object.proofs.ParamWalks.{sized}
+use Rattle.ddm_change.specs.inner.Carried.{carried}
+use Rattle.ddm_change.proofs.CarriedLaws.{carried-length}
+use Rattle.ddm_change.specs.inner.Searching.{paramOf}
+use Rattle.ddm_change.proofs.SearchLaws.{Sane, sane, Searching, searching-start, searching-step, searching-fault, searching-end}
 use borrow.Author.Needs.{needs}
 use Rattle.ddm_change.proofs.search.search.Statement.{statement}
 use Rattle.ddm_change.proofs.search.search.Tie as tie
@@ -85,9 +85,6 @@ add-param-in c = omega (arith, bounded (c .before) (c .loop-test .taken))
 param-in-requires : tie.Need-param-in-requires Inv-loop μ-loop
 param-in-requires c κs = (c .before .before .before .before .pre .0, omega (arith, bounded (c .before) (c .loop-test .taken)))
 
-enum-known-code-point : tie.Need-enum-known-code-point Inv-loop μ-loop
-enum-known-code-point c = search needs
-
 met-behind-requires : tie.Need-met-behind-requires Inv-loop μ-loop
 met-behind-requires c κs = omega (arith, stepped c)
 
@@ -101,9 +98,6 @@ loop-again : tie.Need-loop-again Inv-loop μ-loop
 loop-again c =
     let a = c .before .before .before .before .before .before in
     rw (c .met-behind .ensures) (searching-step _ _ _ _ (a .loop .inv) _ _ (saying (c .before)))
-
-enum-told : tie.Need-enum-told Inv-loop μ-loop
-enum-told c = search needs
 
 returns : tie.Need-returns Inv-loop μ-loop
 returns c =
@@ -119,19 +113,5 @@ returns-2 c =
 pub search-spec : {M : Type 1} → statement M
 search-spec =
     tie.close
-    (tie.spec
-    Inv-loop
-    μ-loop
-    len-in-requires
-    sub-end
-    loop-holds
-    add-param-in
-    param-in-requires
-    enum-known-code-point
-    met-behind-requires
-    add-at
-    loop-less
-    loop-again
-    enum-told
-    returns
-    returns-2)
+    (tie.spec Inv-loop μ-loop len-in-requires sub-end loop-holds add-param-in param-in-requires (λ c. search needs) met-behind-requires
+    add-at loop-less loop-again (λ c. search needs) returns returns-2)

@@ -5,8 +5,8 @@ use mathlib.Core.Path.{sym, _∙_, ap}
 use lib.ListN.{length}
 use Rattle.wire.specs.Bytes.{laid}
 use Rattle.ddm_length.specs.Markers.{unmarked}
-use Rattle.wire.specs.Lent.{tail-drop}
-use Rattle.ddm_object.specs.Records.{in-long, record-of, refused-of, rec-in, need-is, gives-plain, gives-work, gives-short, gives-refused}
+use Rattle.wire.proofs.LentParts.{tail-drop}
+use Rattle.ddm_object.proofs.ObjectRecords.{in-long, record-of, refused-of, rec-in, need-is, gives-plain, gives-work, gives-short, gives-refused}
 use borrow.Author.Needs.{needs}
 use Rattle.ddm_object.proofs.record.parse_in.Statement.{statement}
 use Rattle.ddm_object.proofs.record.parse_in.Tie as tie
@@ -25,11 +25,13 @@ enum-known-o : tie.Need-enum-known-o
 enum-known-o c = search needs
 
 returns : tie.Need-returns
-returns c =
+returns e =
+    let c = e .before in
     let s = c .before .before .before .before .before .before .before .before .args in
     let f = record-of (s .bytes .now) (s .place) _ (sym (c .before .before .before .before .before .record-in .ensures) ∙ c .before .before .before .o .given .1) in
-    gives-short (s .bytes .now) (s .place) (s .position) (s .work .now) _ f (c .before .if1 .taken) _
-    (sym (need-is (s .bytes .now) (s .place) (s .position) (s .work .now) _ f (c .before .if1 .taken))) (c .if2 .taken) (omega arith)
+    rw (e .no-room .ensures)
+    (gives-short (s .bytes .now) (s .place) (s .position) (s .work .now) _ f (c .before .if1 .taken) _
+    (sym (need-is (s .bytes .now) (s .place) (s .position) (s .work .now) _ f (c .before .if1 .taken))) (c .if2 .taken))
 
 sub-strip-extended-ddm-continuation-markers : tie.Need-sub-strip-extended-ddm-continuation-markers
 sub-strip-extended-ddm-continuation-markers c = omega (arith, four-there c)
@@ -77,6 +79,7 @@ parse-in-spec =
     (tie.spec
     record-in-requires
     enum-known-o
+    (λ c κs. search needs)
     returns
     sub-strip-extended-ddm-continuation-markers
     part-strip-extended-ddm-continuation-markers-start

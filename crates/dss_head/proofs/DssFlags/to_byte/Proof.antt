@@ -4,9 +4,9 @@ use mathlib.Core.Path.{_≡_, sym, _∙_}
 use mathlib.Core.Logic.{⊎-elim}
 use native.Mathlib.Omega.{arith}
 use Rattle.wire.specs.Bytes.{pick}
-use Rattle.wire.specs.Laws.{pick-yes, pick-no}
+use Rattle.wire.proofs.WireLaws.{pick-yes, pick-no}
 use Rattle.dss_head.specs.Heads.{flagsByte}
-use Rattle.dss_head.specs.HeadLaws.{flags-most}
+use Rattle.dss_head.proofs.HeadLaws.{flags-most}
 use Rattle.dss_head.proofs.DssFlags.to_byte.Statement.{statement}
 use Rattle.dss_head.proofs.DssFlags.to_byte.Tie as tie
 

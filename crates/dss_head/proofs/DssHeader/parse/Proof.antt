@@ -4,7 +4,7 @@ use native.Mathlib.Nat.{sub-zero}
 use native.Mathlib.Omega.{arith}
 use borrow.Author.Needs.{needs}
 use Rattle.dss_head.specs.Heads.{headAt, headWith}
-use Rattle.dss_head.specs.HeadLaws.{head-short, head-magic, head-typed}
+use Rattle.dss_head.proofs.HeadLaws.{head-short, head-magic, head-typed}
 use Rattle.dss_head.specs.declared.TypeFound.the-variants.{Is}
 use Rattle.dss_head.proofs.DssHeader.parse.Statement.{statement}
 use Rattle.dss_head.proofs.DssHeader.parse.Tie as tie
@@ -12,35 +12,8 @@ use Rattle.dss_head.proofs.DssHeader.parse.Tie as tie
 returns : tie.Need-returns
 returns c = sym (head-short (c .before .before .args .«data» .now) 0 _ (sub-zero _) (c .if1 .taken))
 
-shared-slice-read-magic : tie.Need-shared-slice-read-magic
-shared-slice-read-magic c = search needs
-
 returns-2 : tie.Need-returns-2
 returns-2 c = sym (head-magic (c .before .before .before .before .args .«data» .now) 0 (omega arith) (c .if2 .taken))
-
-shared-slice-read-format : tie.Need-shared-slice-read-format
-shared-slice-read-format c = search needs
-
-from-byte-requires : tie.Need-from-byte-requires
-from-byte-requires c κs = search needs
-
-enum-known-dss-type : tie.Need-enum-known-dss-type
-enum-known-dss-type c = search needs
-
-u16-at-requires : tie.Need-u16-at-requires
-u16-at-requires c κs = search needs
-
-decode-dss-length-requires : tie.Need-decode-dss-length-requires
-decode-dss-length-requires c κs = search needs
-
-from-byte-requires-2 : tie.Need-from-byte-requires-2
-from-byte-requires-2 c κs = search needs
-
-u16-at-requires-2 : tie.Need-u16-at-requires-2
-u16-at-requires-2 c κs = search needs
-
-enum-known-refused : tie.Need-enum-known-refused
-enum-known-refused c = search needs
 
 -- the magic byte is right: the type decides
 typed : (c : tie.After-from-byte) → headAt (c .before .before .before .before .before .before .args .«data» .now) 0
@@ -64,17 +37,5 @@ returns-4 c =
 pub parse-spec : {M : Type 1} → statement M
 parse-spec =
     tie.close
-    (tie.spec
-    returns
-    shared-slice-read-magic
-    returns-2
-    shared-slice-read-format
-    from-byte-requires
-    enum-known-dss-type
-    u16-at-requires
-    decode-dss-length-requires
-    from-byte-requires-2
-    u16-at-requires-2
-    enum-known-refused
-    returns-3
-    returns-4)
+    (tie.spec returns (λ c. search needs) returns-2 (λ c. search needs) (λ c κs. search needs) (λ c. search needs) (λ c κs. search needs)
+    (λ c κs. search needs) (λ c κs. search needs) (λ c κs. search needs) (λ c. search needs) returns-3 returns-4)

@@ -5,10 +5,10 @@ use mathlib.Core.Path.{_≡_, sym, _∙_}
 use mathlib.Core.List.{[], _∷_}
 use lib.ListN.{length, length-set}
 use borrow.Author.Needs.{needs}
-use Rattle.answer.specs.RoomLaws.{room-enough, lays-stored, lays-refused}
+use Rattle.answer.proofs.RoomLaws.{room-enough, lays-stored, lays-refused}
 use Rattle.dss_head.specs.Heads.{headBytes}
-use Rattle.dss_head.specs.Types.{type-range}
-use Rattle.dss_head.specs.HeadLaws.{flags-most}
+use Rattle.dss_head.proofs.TypeLaws.{type-range}
+use Rattle.dss_head.proofs.HeadLaws.{flags-most}
 use Rattle.dss_head.proofs.DssHeader.serialize.Statement.{statement}
 use Rattle.dss_head.proofs.DssHeader.serialize.Tie as tie
 
@@ -16,34 +16,13 @@ use Rattle.dss_head.proofs.DssHeader.serialize.Tie as tie
 room : (c : tie.After-enum-told) → 6 ≤ length (c .before .before .before .before .args .room .now)
 room c = room-enough _ 6 (sym (c .before .before .room-for .ensures) ∙ c .enum-told .given .1)
 
-room-for-requires : tie.Need-room-for-requires
-room-for-requires c κs = search needs
-
-enum-known-refused : tie.Need-enum-known-refused
-enum-known-refused c = search needs
-
-enum-told : tie.Need-enum-told
-enum-told c = search needs
-
-to-byte-requires : tie.Need-to-byte-requires
-to-byte-requires c κs = search needs
-
-to-byte-requires-2 : tie.Need-to-byte-requires-2
-to-byte-requires-2 c κs = search needs
-
 add-format : tie.Need-add-format
 add-format c =
     let h = c .before .before .before .before .before .before .before .args .self in
     omega (arith, type-range (h .«dss_type»), flags-most (h .flags))
 
-cast-room : tie.Need-cast-room
-cast-room c = search needs
-
 slice-write-room : tie.Need-slice-write-room
 slice-write-room c = omega (arith, room (c .before .before .before .before))
-
-cast-room-2 : tie.Need-cast-room-2
-cast-room-2 c = search needs
 
 slice-write-room-2 : tie.Need-slice-write-room-2
 slice-write-room-2 c = simp length-set (omega (arith, room (c .before .before .before .before .before)))
@@ -54,14 +33,8 @@ slice-write-room-3 c = simp length-set (omega (arith, room (c .before .before .b
 slice-write-room-4 : tie.Need-slice-write-room-4
 slice-write-room-4 c = simp length-set (omega (arith, room (c .before .before .before .before .before)))
 
-cast-room-3 : tie.Need-cast-room-3
-cast-room-3 c = search needs
-
 slice-write-room-5 : tie.Need-slice-write-room-5
 slice-write-room-5 c = simp length-set (omega (arith, room (c .before .before .before .before .before .before)))
-
-cast-room-4 : tie.Need-cast-room-4
-cast-room-4 c = search needs
 
 slice-write-room-6 : tie.Need-slice-write-room-6
 slice-write-room-6 c = simp length-set (omega (arith, room (c .before .before .before .before .before .before .before)))
@@ -86,23 +59,6 @@ returns-2 c =
 pub serialize-spec : {M : Type 1} → statement M
 serialize-spec =
     tie.close
-    (tie.spec
-    room-for-requires
-    enum-known-refused
-    enum-told
-    to-byte-requires
-    to-byte-requires-2
-    add-format
-    cast-room
-    slice-write-room
-    cast-room-2
-    slice-write-room-2
-    slice-write-room-3
-    slice-write-room-4
-    cast-room-3
-    slice-write-room-5
-    cast-room-4
-    slice-write-room-6
-    returns
-    same-length
-    returns-2)
+    (tie.spec (λ c κs. search needs) (λ c. search needs) (λ c. search needs) (λ c κs. search needs) (λ c κs. search needs) add-format
+    (λ c. search needs) slice-write-room (λ c. search needs) slice-write-room-2 slice-write-room-3 slice-write-room-4 (λ c. search needs)
+    slice-write-room-5 (λ c. search needs) slice-write-room-6 returns same-length returns-2)

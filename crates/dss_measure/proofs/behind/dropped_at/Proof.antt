@@ -3,7 +3,7 @@ use mathlib.Core.Path.{sym, ap, _∙_}
 use borrow.Author.Needs.{needs}
 use borrow.Author.Tests.{not-true, not-false}
 use Rattle.wire.specs.Bytes.{marker}
-use Rattle.dss_measure.specs.Looks.{dropped-plain, dropped-short, dropped-two, dropped-none}
+use Rattle.dss_measure.proofs.LookLaws.{dropped-plain, dropped-short, dropped-two, dropped-none}
 use Rattle.dss_measure.proofs.behind.dropped_at.Statement.{statement}
 use Rattle.dss_measure.proofs.behind.dropped_at.Tie as tie
 
@@ -17,15 +17,6 @@ returns-2 c =
     let start = c .before .before .before in
     let a = start .args in
     sym (dropped-short (a .run .now) (a .extended) (a .at) (a .raw) (start .pre .0) (c .if2 .taken))
-
-add-u16-at : tie.Need-add-u16-at
-add-u16-at c = search needs
-
-u16-at-requires : tie.Need-u16-at-requires
-u16-at-requires c κs = search needs
-
-is-marker-requires : tie.Need-is-marker-requires
-is-marker-requires c κs = search needs
 
 returns-3 : tie.Need-returns-3
 returns-3 c =
@@ -46,4 +37,4 @@ returns-4 c =
 pub dropped-at-spec : {M : Type 1} → statement M
 dropped-at-spec =
     tie.close
-    (tie.spec returns returns-2 add-u16-at u16-at-requires is-marker-requires returns-3 returns-4)
+    (tie.spec returns returns-2 (λ c. search needs) (λ c κs. search needs) (λ c κs. search needs) returns-3 returns-4)

@@ -1,15 +1,9 @@
 -- `dss_measure::behind::follows` meets its contract: its own type, no object, an object by the first type.
 use mathlib.Core.Path.{sym, _∙_}
 use borrow.Author.Needs.{needs}
-use Rattle.dss_measure.specs.Looks.{follows-own, follows-other, follows-object}
+use Rattle.dss_measure.proofs.LookLaws.{follows-own, follows-other, follows-object}
 use Rattle.dss_measure.proofs.behind.follows.Statement.{statement}
 use Rattle.dss_measure.proofs.behind.follows.Tie as tie
-
-to-byte-requires : tie.Need-to-byte-requires
-to-byte-requires c κs = search needs
-
-to-byte-requires-2 : tie.Need-to-byte-requires-2
-to-byte-requires-2 c κs = search needs
 
 returns : tie.Need-returns
 returns c =
@@ -18,9 +12,6 @@ returns c =
     let a = c .before .before .before .args in
     sym (follows-own (a .first) (a .next) (sym kind ∙ c .if1 .taken ∙ own))
 
-to-byte-requires-3 : tie.Need-to-byte-requires-3
-to-byte-requires-3 c κs = search needs
-
 returns-2 : tie.Need-returns-2
 returns-2 c =
     let object = c .before .to-byte3 .ensures in
@@ -28,9 +19,6 @@ returns-2 c =
     let kind = c .before .before .before .before .to-byte .ensures in
     let a = c .before .before .before .before .before .args in
     sym (follows-other (a .first) (a .next) (λ e. c .before .before .if1 .left (kind ∙ e ∙ sym own)) (λ e. c .if2 .taken (kind ∙ e ∙ sym object)))
-
-takes-object-requires : tie.Need-takes-object-requires
-takes-object-requires c κs = search needs
 
 returns-3 : tie.Need-returns-3
 returns-3 c =
@@ -42,4 +30,4 @@ returns-3 c =
 pub follows-spec : {M : Type 1} → statement M
 follows-spec =
     tie.close
-    (tie.spec to-byte-requires to-byte-requires-2 returns to-byte-requires-3 returns-2 takes-object-requires returns-3)
+    (tie.spec (λ c κs. search needs) (λ c κs. search needs) returns (λ c κs. search needs) returns-2 (λ c κs. search needs) returns-3)

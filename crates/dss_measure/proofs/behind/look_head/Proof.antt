@@ -3,13 +3,10 @@ use native.Mathlib.Omega.{arith}
 use mathlib.Core.Path.{sym, ap, _∙_}
 use borrow.Author.Needs.{needs}
 use borrow.Author.Tests.{not-true, not-false}
-use Rattle.dss_measure.specs.Measure.{lookedOf}
-use Rattle.dss_measure.specs.Looks.{looks-several, looks-other, looks-type, looks-beyond, looks-short, Comes, looks-own, looks-absorbs}
+use Rattle.dss_measure.specs.inner.Walking.{lookedOf}
+use Rattle.dss_measure.proofs.LookLaws.{looks-several, looks-other, looks-type, looks-beyond, looks-short, Comes, looks-own, looks-absorbs}
 use Rattle.dss_measure.proofs.behind.look_head.Statement.{statement}
 use Rattle.dss_measure.proofs.behind.look_head.Tie as tie
-
-u16-at-requires : tie.Need-u16-at-requires
-u16-at-requires c κs = search needs
 
 returns : tie.Need-returns
 returns c =
@@ -27,9 +24,6 @@ returns-2 c =
     (looks-other (a .rules) (a .run .now) (a .first) (a .extended) (a .at) (a .header) (u .u16-at .result) (u .u16-at .ensures) (n .if1 .left)
     (not-true _ (c .if2 .taken))))
 
-follows-requires : tie.Need-follows-requires
-follows-requires c κs = search needs
-
 returns-3 : tie.Need-returns-3
 returns-3 c =
     let f = c .before in
@@ -40,12 +34,6 @@ returns-3 c =
     (sym
     (looks-type (a .rules) (a .run .now) (a .first) (a .extended) (a .at) (a .header) (u .u16-at .result) (u .u16-at .ensures) (n .if1 .left)
     (not-false _ (f .before .if2 .left)) (sym (f .follows .ensures) ∙ not-true _ (c .if3 .taken))))
-
-cast-cont-len : tie.Need-cast-cont-len
-cast-cont-len c = search needs
-
-left-requires : tie.Need-left-requires
-left-requires c κs = search needs
 
 returns-4 : tie.Need-returns-4
 returns-4 c =
@@ -73,9 +61,6 @@ comes c =
       there = omega arith;
     }
 
-refusal-requires : tie.Need-refusal-requires
-refusal-requires c κs = search needs
-
 returns-5 : tie.Need-returns-5
 returns-5 c =
     let w = c .before .before in
@@ -83,21 +68,12 @@ returns-5 c =
     let a = u .before .before .args in
     c .refusal .ensures ∙ ap lookedOf (sym (looks-short (a .rules) (a .run .now) (a .first) (a .extended) (a .at) (a .header) (u .u16-at .result) (comes w) (c .before .if5 .taken)))
 
-own-object-requires : tie.Need-own-object-requires
-own-object-requires c κs = search needs
-
 returns-6 : tie.Need-returns-6
 returns-6 c =
     let w = c .before .before .before in
     let u = w .before .before .before .before .before .before .before .before in
     let a = u .before .before .args in
     ap lookedOf (sym (looks-own (a .rules) (a .run .now) (a .first) (a .extended) (a .at) (a .header) (u .u16-at .result) (comes w) (c .before .before .if5 .left) (sym (c .before .own-object .ensures) ∙ c .if6 .taken)))
-
-dropped-at-requires : tie.Need-dropped-at-requires
-dropped-at-requires c κs = search needs
-
-add-t15 : tie.Need-add-t15
-add-t15 c = search needs
 
 returns-7 : tie.Need-returns-7
 returns-7 c =
@@ -109,19 +85,5 @@ returns-7 c =
 pub look-head-spec : {M : Type 1} → statement M
 look-head-spec =
     tie.close
-    (tie.spec
-    u16-at-requires
-    returns
-    returns-2
-    follows-requires
-    returns-3
-    cast-cont-len
-    left-requires
-    returns-4
-    refusal-requires
-    returns-5
-    own-object-requires
-    returns-6
-    dropped-at-requires
-    add-t15
-    returns-7)
+    (tie.spec (λ c κs. search needs) returns returns-2 (λ c κs. search needs) returns-3 (λ c. search needs) (λ c κs. search needs)
+    returns-4 (λ c κs. search needs) returns-5 (λ c κs. search needs) returns-6 (λ c κs. search needs) (λ c. search needs) returns-7)

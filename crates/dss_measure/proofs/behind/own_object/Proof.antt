@@ -4,7 +4,7 @@ use native.Mathlib.Omega.{arith}
 use mathlib.Core.Path.{sym, ap, _∙_}
 use lib.Dec.{leb}
 use borrow.Author.Needs.{needs}
-use Rattle.dss_measure.specs.Looks.{own-short, own-low, own-fits}
+use Rattle.dss_measure.proofs.LookLaws.{own-short, own-low, own-fits}
 use Rattle.dss_measure.proofs.behind.own_object.Statement.{statement}
 use Rattle.dss_measure.proofs.behind.own_object.Tie as tie
 
@@ -13,25 +13,10 @@ returns c =
     let start = c .before .before in
     sym (own-short (start .args .run .now) (start .args .at) (start .args .raw) (start .pre .0) (c .if1 .taken))
 
-add-u16-at : tie.Need-add-u16-at
-add-u16-at c = search needs
-
-u16-at-requires : tie.Need-u16-at-requires
-u16-at-requires c κs = search needs
-
 returns-2 : tie.Need-returns-2
 returns-2 c =
     let start = c .before .before .before .before in
     sym (own-low (start .args .run .now) (start .args .at) (start .args .raw) (start .pre .0) (c .before .before .if1 .left) (omega arith))
-
-add-u16-at-2 : tie.Need-add-u16-at-2
-add-u16-at-2 c = search needs
-
-u16-at-requires-2 : tie.Need-u16-at-requires-2
-u16-at-requires-2 c κs = search needs
-
-sub-result : tie.Need-sub-result
-sub-result c = search needs
 
 returns-3 : tie.Need-returns-3
 returns-3 c =
@@ -42,12 +27,5 @@ returns-3 c =
 pub own-object-spec : {M : Type 1} → statement M
 own-object-spec =
     tie.close
-    (tie.spec
-    returns
-    add-u16-at
-    u16-at-requires
-    returns-2
-    add-u16-at-2
-    u16-at-requires-2
-    sub-result
+    (tie.spec returns (λ c. search needs) (λ c κs. search needs) returns-2 (λ c. search needs) (λ c κs. search needs) (λ c. search needs)
     returns-3)

@@ -5,31 +5,16 @@ use mathlib.Core.Path.{_≡_}
 use lib.ListN.{getD}
 use borrow.Author.Needs.{needs}
 use borrow.Author.Tests.{leb-true}
-use Rattle.dss_head.specs.Types.{lastType}
-use Rattle.dss_measure.specs.Glance.{headed}
+use Rattle.dss_head.proofs.TypeLaws.{lastType}
+use Rattle.dss_measure.proofs.GlanceLaws.{headed}
 use Rattle.dss_measure.proofs.glance.has_head.Statement.{statement}
 use Rattle.dss_measure.proofs.glance.has_head.Tie as tie
-
-left-requires : tie.Need-left-requires
-left-requires c κs = search needs
 
 returns : tie.Need-returns
 returns c e = let z : _≡_ {A = ℕ} 0 1 = cc in absurd (omega arith)
 
-add-if2 : tie.Need-add-if2
-add-if2 c = search needs
-
-shared-slice-read-if2 : tie.Need-shared-slice-read-if2
-shared-slice-read-if2 c = search needs
-
 returns-2 : tie.Need-returns-2
 returns-2 c e = let z : _≡_ {A = ℕ} 0 1 = cc in absurd (omega arith)
-
-add-low : tie.Need-add-low
-add-low c = search needs
-
-shared-slice-read-low : tie.Need-shared-slice-read-low
-shared-slice-read-low c = search needs
 
 returns-3 : tie.Need-returns-3
 returns-3 c e = let z : _≡_ {A = ℕ} 0 1 = cc in absurd (omega arith)
@@ -42,13 +27,5 @@ returns-4 c e =
 pub has-head-spec : {M : Type 1} → statement M
 has-head-spec =
     tie.close
-    (tie.spec
-    left-requires
-    returns
-    add-if2
-    shared-slice-read-if2
-    returns-2
-    add-low
-    shared-slice-read-low
-    returns-3
-    returns-4)
+    (tie.spec (λ c κs. search needs) returns (λ c. search needs) (λ c. search needs) returns-2 (λ c. search needs) (λ c. search needs)
+    returns-3 returns-4)

@@ -5,35 +5,17 @@ use borrow.Author.Tests.{not-false}
 use Rattle.dss_measure.proofs.glance.lone_len.Statement.{statement}
 use Rattle.dss_measure.proofs.glance.lone_len.Tie as tie
 
-has-head-requires : tie.Need-has-head-requires
-has-head-requires c κs = search needs
-
 returns : tie.Need-returns
 returns c i = absurd (omega arith)
-
-u16-at-requires : tie.Need-u16-at-requires
-u16-at-requires c κs = search needs
 
 returns-2 : tie.Need-returns-2
 returns-2 c i = absurd (omega arith)
 
-cast-len : tie.Need-cast-len
-cast-len c = search needs
-
 returns-3 : tie.Need-returns-3
 returns-3 c i = absurd (omega arith)
 
-left-requires : tie.Need-left-requires
-left-requires c κs = search needs
-
 returns-4 : tie.Need-returns-4
 returns-4 c i = absurd (omega arith)
-
-add-stands-apart : tie.Need-add-stands-apart
-add-stands-apart c = search needs
-
-stands-apart-requires : tie.Need-stands-apart-requires
-stands-apart-requires c κs = search needs
 
 returns-5 : tie.Need-returns-5
 returns-5 c i = absurd (omega arith)
@@ -54,16 +36,5 @@ returns-6 c i =
 pub lone-len-spec : {M : Type 1} → statement M
 lone-len-spec =
     tie.close
-    (tie.spec
-    has-head-requires
-    returns
-    u16-at-requires
-    returns-2
-    cast-len
-    returns-3
-    left-requires
-    returns-4
-    add-stands-apart
-    stands-apart-requires
-    returns-5
-    returns-6)
+    (tie.spec (λ c κs. search needs) returns (λ c κs. search needs) returns-2 (λ c. search needs) returns-3 (λ c κs. search needs)
+    returns-4 (λ c. search needs) (λ c κs. search needs) returns-5 returns-6)

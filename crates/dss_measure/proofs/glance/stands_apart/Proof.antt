@@ -5,29 +5,17 @@ use mathlib.Core.Path.{_≡_}
 use lib.ListN.{getD}
 use borrow.Author.Needs.{needs}
 use borrow.Author.Tests.{eqb-true, ne-eqb, not-false}
-use Rattle.dss_measure.specs.Glance.{apart-nothing, apart-clear}
+use Rattle.dss_measure.proofs.GlanceLaws.{apart-nothing, apart-clear}
 use Rattle.dss_measure.proofs.glance.stands_apart.Statement.{statement}
 use Rattle.dss_measure.proofs.glance.stands_apart.Tie as tie
-
-left-requires : tie.Need-left-requires
-left-requires c κs = search needs
 
 returns : tie.Need-returns
 returns c _ =
     let a = c .before .before .before .args in
     apart-nothing (a .run .now) (a .at) (omega arith)
 
-has-head-requires : tie.Need-has-head-requires
-has-head-requires c κs = search needs
-
 returns-2 : tie.Need-returns-2
 returns-2 c e = let z : _≡_ {A = ℕ} 0 1 = cc in absurd (omega arith)
-
-add-result : tie.Need-add-result
-add-result c = search needs
-
-shared-slice-read-result : tie.Need-shared-slice-read-result
-shared-slice-read-result c = search needs
 
 returns-3 : tie.Need-returns-3
 returns-3 c e =
@@ -38,4 +26,5 @@ returns-3 c e =
 
 pub stands-apart-spec : {M : Type 1} → statement M
 stands-apart-spec =
-    tie.close (tie.spec left-requires returns has-head-requires returns-2 add-result shared-slice-read-result returns-3)
+    tie.close
+    (tie.spec (λ c κs. search needs) returns (λ c κs. search needs) returns-2 (λ c. search needs) (λ c. search needs) returns-3)

@@ -3,19 +3,10 @@ use Prim.Native.Nat.{_-_}
 use native.Mathlib.Omega.{arith}
 use borrow.Author.Needs.{needs}
 use Rattle.wire.specs.Bytes.{part}
-use Rattle.wire.specs.Laws.{part-length}
-use Rattle.dss_measure.specs.Sofars.{grown-none, grown-one, grown-more}
+use Rattle.wire.proofs.WireLaws.{part-length}
+use Rattle.dss_measure.proofs.SoFarLaws.{grown-none, grown-one, grown-more}
 use Rattle.dss_measure.proofs.payload.grown.Statement.{statement}
 use Rattle.dss_measure.proofs.payload.grown.Tie as tie
-
-sub-more : tie.Need-sub-more
-sub-more c = search needs
-
-part-byte-requires : tie.Need-part-byte-requires
-part-byte-requires c κs = search needs
-
-part-byte-requires-2 : tie.Need-part-byte-requires-2
-part-byte-requires-2 c κs = search needs
 
 returns : tie.Need-returns
 returns c p e =
@@ -23,20 +14,11 @@ returns c p e =
     grown-none p (part (a .run .now) (a .from) (a .end)) (a .sofar) e (a .end - a .from) (part-length (a .run .now) (a .from) (a .end) (omega arith))
     (c .before .part-byte .result) (c .part-byte2 .result) (c .before .part-byte .ensures) (c .part-byte2 .ensures) (c .before .before .if1 .taken)
 
-part-byte-requires-3 : tie.Need-part-byte-requires-3
-part-byte-requires-3 c κs = search needs
-
-add-t11 : tie.Need-add-t11
-add-t11 c = search needs
-
 returns-2 : tie.Need-returns-2
 returns-2 c p e =
     let a = c .before .before .before .before .args in
     grown-one p (part (a .run .now) (a .from) (a .end)) (a .sofar) e (a .end - a .from) (part-length (a .run .now) (a .from) (a .end) (omega arith))
     (c .part-byte3 .result) (c .part-byte3 .ensures) (c .before .if2 .taken)
-
-add-t12 : tie.Need-add-t12
-add-t12 c = search needs
 
 returns-3 : tie.Need-returns-3
 returns-3 c p e =
@@ -46,13 +28,5 @@ returns-3 c p e =
 pub grown-spec : {M : Type 1} → statement M
 grown-spec =
     tie.close
-    (tie.spec
-    sub-more
-    part-byte-requires
-    part-byte-requires-2
-    returns
-    part-byte-requires-3
-    add-t11
-    returns-2
-    add-t12
-    returns-3)
+    (tie.spec (λ c. search needs) (λ c κs. search needs) (λ c κs. search needs) returns (λ c κs. search needs) (λ c. search needs)
+    returns-2 (λ c. search needs) returns-3)

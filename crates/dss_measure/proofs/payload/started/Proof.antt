@@ -5,11 +5,8 @@ use borrow.Author.Needs.{needs}
 use Rattle.dss_measure.proofs.payload.started.Statement.{statement}
 use Rattle.dss_measure.proofs.payload.started.Tie as tie
 
-grown-requires : tie.Need-grown-requires
-grown-requires c κs = search needs
-
 returns : tie.Need-returns
 returns c = c .grown .ensures [] refl
 
 pub started-spec : {M : Type 1} → statement M
-started-spec = tie.close (tie.spec grown-requires returns)
+started-spec = tie.close (tie.spec (λ c κs. search needs) returns)

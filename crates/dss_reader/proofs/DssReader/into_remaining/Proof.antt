@@ -5,8 +5,8 @@ use mathlib.Core.Path.{sym, _∙_, ap}
 use lib.ListN.{length, drop-of-length-le}
 use borrow.Author.Needs.{needs}
 use borrow.Author.Tests.{le-leb, lt-leb}
-use Rattle.wire.specs.Laws.{pick-yes, pick-no}
-use Rattle.wire.specs.Lent.{tail-drop}
+use Rattle.wire.proofs.WireLaws.{pick-yes, pick-no}
+use Rattle.wire.proofs.LentParts.{tail-drop}
 use Rattle.wire.specs.Parts.{startAt}
 use Rattle.dss_reader.proofs.DssReader.into_remaining.Statement.{statement}
 use Rattle.dss_reader.proofs.DssReader.into_remaining.Tie as tie

@@ -1,4 +1,4 @@
--- `dss_reader::DssReader::read_all_frames` meets its contract: a walk of its MIR, by hand, which is a straight line. All that it knows of `read_all`, `records_of` and `dss_row::fill_rows` is that each meets its contract.
+-- `dss_reader::DssReader::read_all_frames` meets its contract: a walk of its MIR, by hand, which is a straight line. All that it knows of `gather_frames`, `records_in` and `dss_row::fill_rows` is that each meets its contract.
 -- The first and the last are called at the borrows' own lifetimes, shares and ghost names: the room and the row are given up for good (`gave-slice`), and what the callees say of their last lists is said of this function's.
 use mathlib.Core.Path.{_≡_, refl, sym, ap, subst}
 use Prim.Native.Nat.{ℕ, _<_, _^_}
@@ -41,27 +41,28 @@ use denote.Signature.{plain}
 use Rattle.wire.specs.Bytes.{splice}
 use Rattle.dss_frame.specs.declared.DssFrame.{DssFrame}
 use Rattle.dss_frame.proofs.DssFrame as R
-use Rattle.dss_row.specs.Rows.{recordsFrom, startsAt}
+use Rattle.dss_row.specs.inner.FrameRows.{recordsFrom}
+use Rattle.dss_frame.specs.inner.RowStart.{startsAt}
 use Rattle.dss_row.proofs.fill_rows as fill
 use Rattle.dss_row.proofs.fill_rows.Symbol as fill-def
 use Rattle.dss_row.proofs.fill_rows.Symbol.{name as #fill-rows}
 use Rattle.dss_row.proofs.fill_rows.Met as fill-thm
 use Rattle.dss_reader.specs.declared.DssReader.{DssReader}
 use Rattle.dss_reader.specs.declared.FramesRead.{FramesRead}
-use Rattle.dss_reader.specs.Reader.{ReadAllFrames}
-use Rattle.dss_reader.specs.Gathered.{Gathers, recordsIn, read-all-is}
+use Rattle.dss_reader.specs.Reader.{ReadAllFrames, GathersFrames, recordsIn}
+use Rattle.dss_reader.proofs.GatheredFrames.{read-all-is}
 use Rattle.dss_reader.proofs.DssReader as D
 use Rattle.dss_reader.proofs.DssReader.Laws as D′
 use Rattle.dss_reader.proofs.FramesRead as G
 use Rattle.dss_reader.proofs.FramesRead.Laws as G′
-use Rattle.dss_reader.proofs.read_all as read
-use Rattle.dss_reader.proofs.read_all.Symbol as read-def
-use Rattle.dss_reader.proofs.read_all.Symbol.{name as #read-all}
-use Rattle.dss_reader.proofs.read_all.Met as read-thm
-use Rattle.dss_reader.proofs.records_of as count
-use Rattle.dss_reader.proofs.records_of.Symbol as count-def
-use Rattle.dss_reader.proofs.records_of.Symbol.{name as #records-of}
-use Rattle.dss_reader.proofs.records_of.Met as count-thm
+use Rattle.dss_reader.proofs.gather_frames as read
+use Rattle.dss_reader.proofs.gather_frames.Symbol as read-def
+use Rattle.dss_reader.proofs.gather_frames.Symbol.{name as #gather-frames}
+use Rattle.dss_reader.proofs.gather_frames.Met as read-thm
+use Rattle.dss_reader.proofs.records_in as count
+use Rattle.dss_reader.proofs.records_in.Symbol as count-def
+use Rattle.dss_reader.proofs.records_in.Symbol.{name as #records-in}
+use Rattle.dss_reader.proofs.records_in.Met as count-thm
 use Rattle.dss_reader.proofs.DssReader.read_all_frames.Key.{name as #read-all-frames}
 use Rattle.dss_reader.proofs.DssReader.read_all_frames as all
 use Rattle.dss_reader.proofs.DssReader.read_all_frames.Statement as stated
@@ -134,7 +135,7 @@ module _ {M : Type 1} (𝓤 : URA M) (H : Heap 𝓤) (A : Atoms 𝓤) (W : Given
   abbrev RowOwn : Fml
   RowOwn = MutSlice (named 1) κ″ R.the-row .own y (yval ∷ [])
 
-  -- ---- `read_all`
+  -- ---- `gather_frames`
   abbrev read-args : RefT (List ℕ) × (ℕ × (RefT (List ℕ) × (ℕ × Unit {0})))
   read-args = (s, (p, (x, (length ys, tt))))
 
@@ -158,7 +159,7 @@ module _ {M : Type 1} (𝓤 : URA M) (H : Heap 𝓤) (A : Atoms 𝓤) (W : Given
   abbrev read-last : List ℕ → Unit {0} × (Unit {0} × (List ℕ × (Unit {0} × Unit {0})))
   read-last zs = (tt, (tt, (zs, (tt, tt))))
 
-  -- ---- `records_of`
+  -- ---- `records_in`
   abbrev to-count : FramesRead → Val → RecordsOf 𝓤 H A mem run .Ghost
   to-count f u = ((tt, tt, tt, (f, tt), (u ∷ [], tt)), tt)
 
@@ -203,7 +204,7 @@ module _ {M : Type 1} (𝓤 : URA M) (H : Heap 𝓤) (A : Atoms 𝓤) (W : Given
       owned ! D.the-row (Is D.the-row) (LL.makes D.the-type D′.the-plain 𝓤 H A) d _ d-is $ fjoin ! $ frame ! $
       owned ! G.the-row (Is G.the-row) (EL.makes G.the-type G′.the-plain 𝓤 H A) f _ is $ done !
 
-  module _ (C : Calls 𝓤 H) (Λ : Loops 𝓤 H) (fm : FmC 𝓤 H (W .laws) C) (known-read : Triple 𝓤 (C #read-all) (ReadAll 𝓤 H A mem run)) (known-count : Triple 𝓤 (C #records-of) (RecordsOf 𝓤 H A mem run)) (known-fill : Triple 𝓤 (C #fill-rows) (FillRows 𝓤 H A mem run)) where
+  module _ (C : Calls 𝓤 H) (Λ : Loops 𝓤 H) (fm : FmC 𝓤 H (W .laws) C) (known-read : Triple 𝓤 (C #gather-frames) (ReadAll 𝓤 H A mem run)) (known-count : Triple 𝓤 (C #records-in) (RecordsOf 𝓤 H A mem run)) (known-fill : Triple 𝓤 (C #fill-rows) (FillRows 𝓤 H A mem run)) where
     walk : Room u8 (length (s .now)) → Room u8 (length xs) → Room R.the-row (length ys)
         → ent 𝓤 (onEntry 𝓤 H A all.signature (κ, (κ′, (κ″, tt))) (q, (q′, (q″, tt))) a vs) (WpFn 𝓤 H C Λ code.function (reader-val d ∷ sval ∷ xval ∷ yval ∷ []) Post)
     walk sroom room rows =
@@ -219,19 +220,19 @@ module _ {M : Type 1} (𝓤 : URA M) (H : Heap 𝓤) (A : Atoms 𝓤) (W : Given
         assigns ! (addr ! (from ! (fld ! refl (hop ! (look-in ! 24 (sub ! 0 refl (whole !))) (stop !))))) (from ! (stop !)) (init ! 16 refl (tt, tt)) $
         assigns ! (agg ! (and-then ! (load ! (from ! (stop !)) (look ! 16 refl)) (and-then ! (load ! (from ! (fld ! refl (stop !))) (look-in ! 24 (sub ! 1 refl (whole !)))) (no-more !)))) (from ! (stop !)) (init ! 14 refl (tt, (tt, (record { fits = room .0 }, tt)))) $
         assigns ! (of-opd ! (load ! (from ! (fld ! refl (stop !))) (look-in ! 22 (sub ! 1 refl (whole !))))) (from ! (stop !)) (init ! 12 refl (tt, record { fits = rows .0 })) $
-        -- `read_all`
+        -- `gather_frames`
         move ! (5 ∷ 4 ∷ 2 ∷ 1 ∷ []) $ group ! 4 $ use1 W (raw (ReadAll 𝓤 H A mem run .pre to-read) ⊛ ‵ Own) (asks-read (rows .0)) $ split ! $
         -- [what it asks; what the run owns; what the row owns; the row's token; _12; …]
         calls-at ! fm (ReadAll 𝓤 H A mem run) known-read to-read (and-then ! (load ! (from ! (stop !)) (look ! 24 refl)) (and-then ! (load ! (from ! (stop !)) (look ! 18 refl)) (and-then ! (load ! (from ! (stop !)) (look ! 12 refl)) (and-then ! (load ! (from ! (stop !)) (look ! 10 refl)) (no-more !))))) (λ u.
         use1 W (later (some (λ (f : FramesRead). ((‵ (flft κ q) ⊛ ‵ (flft κ′ q′) ⊛ ‵ ftrue) ⊛ ‵ (G.the-row .own f (u ∷ []))) ⊛ raw (ensured 𝓤 H A read.ended (read.clauses 𝓤 H A mem run) (κ, (κ′, tt)) read-args tt f)))) (id⊢ 𝓤 _) $ await ! tt $ pick ! (λ f.
-        split ! $ move ! (1 ∷ []) $ use1 W (some (λ (zs : Unit {0} × (Unit {0} × (List ℕ × (Unit {0} × Unit {0})))). ‵ (lasts read.ended (κ, (κ′, tt)) read-args zs) ⊛ raw (fact 𝓤 (Gathers (s .now) p xs (length ys) f (zs .1 .1 .0))))) (id⊢ 𝓤 _) $ pick ! (λ zs.
-        split ! $ move ! (1 ∷ []) $ heard ! (Gathers (s .now) p xs (length ys) f (zs .1 .1 .0)) (λ e. fsplit ! $ drop ! $ fsplit ! $ drop ! $ fsplit ! $ fsplit ! $ move ! (1 ∷ []) $ feqL ! (λ l. move ! (1 ∷ []) $ drop ! $
+        split ! $ move ! (1 ∷ []) $ use1 W (some (λ (zs : Unit {0} × (Unit {0} × (List ℕ × (Unit {0} × Unit {0})))). ‵ (lasts read.ended (κ, (κ′, tt)) read-args zs) ⊛ raw (fact 𝓤 (GathersFrames (s .now) p xs (length ys) f (zs .1 .1 .0))))) (id⊢ 𝓤 _) $ pick ! (λ zs.
+        split ! $ move ! (1 ∷ []) $ heard ! (GathersFrames (s .now) p xs (length ys) f (zs .1 .1 .0)) (λ e. fsplit ! $ drop ! $ fsplit ! $ drop ! $ fsplit ! $ fsplit ! $ move ! (1 ∷ []) $ feqL ! (λ l. move ! (1 ∷ []) $ drop ! $
         -- [the room's last list; the tokens and the result; what the run owns; what the row owns; the row's token; _12; …]
         move ! (1 ∷ []) $ split ! $ split ! $ move ! (1 ∷ []) $ split ! $ move ! (1 ∷ []) $ drop ! $ move ! (2 ∷ []) $
         -- [the result; the room's token; the run's; the room's last list; what the run owns; what the row owns; the row's token; _12; …]
         peeks ! G.the-row (Is G.the-row) (shows 𝓤 H A G.the-row) f (u ∷ []) (λ is.
         land ! (from ! (stop !)) (init ! 19 refl (EL.lawful G.the-type G′.the-laws 𝓤 H A W tt .typed f _ is .0)) $
-        -- `records_of`
+        -- `records_in`
         use1 W (raw (RecordsOf 𝓤 H A mem run .pre (to-count f u))) (goes-count f u) $
         calls-at ! fm (RecordsOf 𝓤 H A mem run) known-count (to-count f u) (and-then ! (load ! (from ! (stop !)) (look ! 19 refl)) (no-more !)) (λ v.
         use1 W (later (some (λ (n : ℕ). (‵ ftrue ⊛ ‵ (usize .own n (v ∷ []))) ⊛ raw (ensured 𝓤 H A count.ended (count.clauses 𝓤 H A mem run) tt (f, tt) tt n)))) (id⊢ 𝓤 _) $ await ! tt $ pick ! (λ n.
@@ -256,7 +257,7 @@ module _ {M : Type 1} (𝓤 : URA M) (H : Heap 𝓤) (A : Atoms 𝓤) (W : Given
         move ! (30 ∷ 31 ∷ []) $ free1 ! $ move ! (28 ∷ 29 ∷ []) $ free1 ! $ move ! (26 ∷ 27 ∷ []) $ free1 ! $ move ! (24 ∷ 25 ∷ []) $ free1 ! $ move ! (22 ∷ 23 ∷ []) $ free1 ! $ move ! (20 ∷ 21 ∷ []) $ free1 ! $ move ! (18 ∷ 19 ∷ []) $ free1 ! $ move ! (16 ∷ 17 ∷ []) $ free1 ! $ move ! (14 ∷ 15 ∷ []) $ free1 ! $ move ! (12 ∷ 13 ∷ []) $ free1 ! $ move ! (10 ∷ 11 ∷ []) $ free1 ! $ move ! (8 ∷ 9 ∷ []) $ free1 ! $ move ! (6 ∷ 7 ∷ []) $ free1 ! $ free0 ! $
         keep ! (1 ∷ 4 ∷ 0 ∷ 3 ∷ 5 ∷ 2 ∷ []) $ by ! (exits f u (zs .1 .1 .0) (ws .1 .1 .1 .0) (read-all-is (s .now) p xs ys f (zs .1 .1 .0) (ws .1 .1 .1 .0) n e c g) l m is))))))))))))))))))))))))))))))
 
-module _ {M : Type 1} (𝓤 : URA M) (H : Heap 𝓤) (A : Atoms 𝓤) (W : Given 𝓤 H A) (mem : Memory → SProp 𝓤) (run : Routine → Fun 𝓤) (𝓣 : Tables 𝓤 H) (known-read : Triple 𝓤 (𝓣 .C #read-all) (ReadAll 𝓤 H A mem run)) (known-count : Triple 𝓤 (𝓣 .C #records-of) (RecordsOf 𝓤 H A mem run)) (known-fill : Triple 𝓤 (𝓣 .C #fill-rows) (FillRows 𝓤 H A mem run)) where
+module _ {M : Type 1} (𝓤 : URA M) (H : Heap 𝓤) (A : Atoms 𝓤) (W : Given 𝓤 H A) (mem : Memory → SProp 𝓤) (run : Routine → Fun 𝓤) (𝓣 : Tables 𝓤 H) (known-read : Triple 𝓤 (𝓣 .C #gather-frames) (ReadAll 𝓤 H A mem run)) (known-count : Triple 𝓤 (𝓣 .C #records-in) (RecordsOf 𝓤 H A mem run)) (known-fill : Triple 𝓤 (𝓣 .C #fill-rows) (FillRows 𝓤 H A mem run)) where
   all-walks : Walks 𝓤 H A all.ended stayed (WpFn 𝓤 H (𝓣 .C) (𝓣 .Λ) code.function) (all.clauses 𝓤 H A mem run)
   all-walks = walked 𝓤 H A all.ended stayed (all.clauses 𝓤 H A mem run) (WpFn 𝓤 H (𝓣 .C) (𝓣 .Λ) code.function)
       (λ κs. (reader-vals, (slice-vals, (slice-vals, (slice-vals, tt)))))
@@ -277,6 +278,6 @@ read-all-frames-spec 𝓤 H 𝓜 𝓖 𝓡 =
     entered 𝓤 H (tripleOf 𝓤 H (𝓖 .A) all.signature (all.spec 𝓤 H (𝓖 .A) (𝓜 .mem) (𝓡 .run)))
     (tables 𝓤 H 𝓜 𝓡 code.env .C) (tables 𝓤 H 𝓜 𝓡 code.env .Λ) #read-all-frames code.function (code.unfolded 𝓤 H 𝓜 𝓡)
     (all-meets 𝓤 H (𝓖 .A) (givenOf 𝓤 H 𝓜 𝓖) (𝓜 .mem) (𝓡 .run) (tablesOf 𝓤 H 𝓜 (tables 𝓤 H 𝓜 𝓡 code.env))
-    (cited 𝓤 H (ReadAll 𝓤 H (𝓖 .A) (𝓜 .mem) (𝓡 .run)) 𝓜 𝓡 code.env #read-all read-def.routine code.calls-dss-reader·read-all (read-thm.met 𝓤 H 𝓜 𝓖 𝓡))
-    (cited 𝓤 H (RecordsOf 𝓤 H (𝓖 .A) (𝓜 .mem) (𝓡 .run)) 𝓜 𝓡 code.env #records-of count-def.routine code.calls-dss-reader·records-of (count-thm.met 𝓤 H 𝓜 𝓖 𝓡))
+    (cited 𝓤 H (ReadAll 𝓤 H (𝓖 .A) (𝓜 .mem) (𝓡 .run)) 𝓜 𝓡 code.env #gather-frames read-def.routine code.calls-dss-reader·gather-frames (read-thm.met 𝓤 H 𝓜 𝓖 𝓡))
+    (cited 𝓤 H (RecordsOf 𝓤 H (𝓖 .A) (𝓜 .mem) (𝓡 .run)) 𝓜 𝓡 code.env #records-in count-def.routine code.calls-dss-reader·records-in (count-thm.met 𝓤 H 𝓜 𝓖 𝓡))
     (cited 𝓤 H (FillRows 𝓤 H (𝓖 .A) (𝓜 .mem) (𝓡 .run)) 𝓜 𝓡 code.env #fill-rows fill-def.routine code.calls-dss-row·fill-rows (fill-thm.met 𝓤 H 𝓜 𝓖 𝓡)))

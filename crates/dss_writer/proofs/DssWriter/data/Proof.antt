@@ -8,7 +8,7 @@ use lib.Seq.{length-take-le}
 use denote.Ref.{RefT}
 use borrow.Author.Needs.{needs}
 use borrow.Author.Tests.{le-leb, lt-leb}
-use Rattle.wire.specs.Laws.{pick-yes, pick-no}
+use Rattle.wire.proofs.WireLaws.{pick-yes, pick-no}
 use Rattle.wire.specs.Parts.{startAt}
 use Rattle.dss_writer.proofs.DssWriter.data.Statement.{statement}
 use Rattle.dss_writer.proofs.DssWriter.data.Tie as tie

@@ -7,8 +7,8 @@ use lib.ListN.{length, drop}
 use borrow.Author.Needs.{needs}
 use Rattle.dss_frame.specs.Written.{Sent, chunks}
 use Rattle.dss_writer.specs.Writer.{sent}
-use Rattle.wire.specs.Lent.{back, tail-drop, tail-length}
-use Rattle.dss_writer.specs.Laying.{single-room, single-laid, first-length, several-room, several-laid}
+use Rattle.wire.proofs.LentParts.{back, tail-drop, tail-length}
+use Rattle.dss_writer.proofs.LayingLaws.{single-room, single-laid, first-length, several-room, several-laid}
 use Rattle.dss_writer.proofs.DssWriter.lay_frame.Statement.{statement}
 use Rattle.dss_writer.proofs.DssWriter.lay_frame.Tie as tie
 
@@ -21,28 +21,10 @@ one c = let s = c .before .before .before in single-room (frame s) (s .args .roo
 more : (c : tie.Else1) → let a = c .before .before .before .args in a .self .fill + 32767 + length (chunks (drop 32761 (a .payload .now))) ≤ length (a .room .now)
 more c = let s = c .before .before .before in several-room (frame s) (s .args .room .now) (s .args .self .fill) (s .pre) (c .if1 .left)
 
-add-raw-length : tie.Need-add-raw-length
-add-raw-length c = search needs
-
-cast-raw-length : tie.Need-cast-raw-length
-cast-raw-length c = search needs
-
-sub-lay-segment : tie.Need-sub-lay-segment
-sub-lay-segment c = search needs
-
-part-lay-segment-start : tie.Need-part-lay-segment-start
-part-lay-segment-start c = search needs
-
-part-lay-segment-end : tie.Need-part-lay-segment-end
-part-lay-segment-end c = search needs
-
 lay-segment-requires : tie.Need-lay-segment-requires
 lay-segment-requires c κs =
     let a = c .before .before .before .before .args in
     omega (arith, one (c .before), tail-length (a .room .now) (a .self .fill))
-
-same-length : tie.Need-same-length
-same-length c = search needs
 
 returns : tie.Need-returns
 returns c =
@@ -54,15 +36,6 @@ slice-aggregate-lay-segment c =
     let s = c .before .before .before .before in
     sym (first-length (frame s) (s .args .room .now) (s .args .self .fill) (s .pre) (c .before .if1 .left))
 
-sub-lay-segment-2 : tie.Need-sub-lay-segment-2
-sub-lay-segment-2 c = search needs
-
-part-lay-segment-start-2 : tie.Need-part-lay-segment-start-2
-part-lay-segment-start-2 c = search needs
-
-part-lay-segment-end-2 : tie.Need-part-lay-segment-end-2
-part-lay-segment-end-2 c = search needs
-
 lay-segment-requires-2 : tie.Need-lay-segment-requires-2
 lay-segment-requires-2 c κs =
     let s = c .before .before .before .before .before in
@@ -73,26 +46,11 @@ lay-segment-requires-2 c κs =
       tail-length (s .args .room .now) (s .args .self .fill),
     )
 
-add-next : tie.Need-add-next
-add-next c = search needs
-
-sub-lay-chunks : tie.Need-sub-lay-chunks
-sub-lay-chunks c = search needs
-
-part-lay-chunks-start : tie.Need-part-lay-chunks-start
-part-lay-chunks-start c = search needs
-
-part-lay-chunks-end : tie.Need-part-lay-chunks-end
-part-lay-chunks-end c = search needs
-
 sub-lay-chunks-2 : tie.Need-sub-lay-chunks-2
 sub-lay-chunks-2 c = omega (arith, more (c .before .before .before .before .before .before), c .before .before .room2 .given .1)
 
 part-lay-chunks-start-2 : tie.Need-part-lay-chunks-start-2
 part-lay-chunks-start-2 c = omega (arith, more (c .before .before .before .before .before .before), c .before .before .room2 .given .1)
-
-part-lay-chunks-end-2 : tie.Need-part-lay-chunks-end-2
-part-lay-chunks-end-2 c = search needs
 
 lay-chunks-requires : tie.Need-lay-chunks-requires
 lay-chunks-requires c κs =
@@ -105,9 +63,6 @@ lay-chunks-requires c κs =
       tail-length (back (a .room .now) (a .self .fill) (c .before .before .before .before .lay-segment2 .last .1 .1 .1 .1 .1 .1 .0)) (a .self .fill + 32767),
     )
 
-same-length-2 : tie.Need-same-length-2
-same-length-2 c = search needs
-
 returns-2 : tie.Need-returns-2
 returns-2 c =
     let s = c .before .before .before .before .before .before .before .before .before .before .before .before .before in
@@ -116,27 +71,7 @@ returns-2 c =
 pub lay-frame-spec : {M : Type 1} → statement M
 lay-frame-spec =
     tie.close
-    (tie.spec
-    add-raw-length
-    cast-raw-length
-    sub-lay-segment
-    part-lay-segment-start
-    part-lay-segment-end
-    lay-segment-requires
-    same-length
-    returns
-    slice-aggregate-lay-segment
-    sub-lay-segment-2
-    part-lay-segment-start-2
-    part-lay-segment-end-2
-    lay-segment-requires-2
-    add-next
-    sub-lay-chunks
-    part-lay-chunks-start
-    part-lay-chunks-end
-    sub-lay-chunks-2
-    part-lay-chunks-start-2
-    part-lay-chunks-end-2
-    lay-chunks-requires
-    same-length-2
-    returns-2)
+    (tie.spec (λ c. search needs) (λ c. search needs) (λ c. search needs) (λ c. search needs) (λ c. search needs) lay-segment-requires
+    (λ c. search needs) returns slice-aggregate-lay-segment (λ c. search needs) (λ c. search needs) (λ c. search needs)
+    lay-segment-requires-2 (λ c. search needs) (λ c. search needs) (λ c. search needs) (λ c. search needs) sub-lay-chunks-2
+    part-lay-chunks-start-2 (λ c. search needs) lay-chunks-requires (λ c. search needs) returns-2)

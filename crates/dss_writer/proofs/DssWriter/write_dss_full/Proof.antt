@@ -5,9 +5,9 @@ use mathlib.Core.Path.{_≡_, sym, _∙_}
 use lib.ListN.{length}
 use borrow.Author.Needs.{needs}
 use Rattle.dss_frame.specs.Written.{Sent, written}
-use Rattle.dss_laws.specs.Writing.{written-size}
+use Rattle.dss_laws.proofs.WritingLaws.{written-size}
 use Rattle.dss_writer.specs.Writer.{sent}
-use Rattle.dss_writer.specs.Laying.{size-known, Fits, fits, writes-done, writes-refused}
+use Rattle.dss_writer.proofs.LayingLaws.{size-known, FrameFits, fits, writes-done, writes-refused}
 use Rattle.dss_writer.proofs.DssWriter.write_dss_full.Statement.{statement}
 use Rattle.dss_writer.proofs.DssWriter.write_dss_full.Tie as tie
 
@@ -17,7 +17,7 @@ frame s = sent (s .args .self .«correlation_id») (s .args .dss-type) (s .args 
 size : (c : tie.After-frame-size) → c .frame-size .result ≡ length (written (frame (c .before .before .before)))
 size c = let s = c .before .before .before in size-known (frame s) (c .frame-size .result) (omega (arith, s)) (c .frame-size .ensures)
 
-fitting : (c : tie.After-enum-told) → let s = c .before .before .before .before .before .before in Fits (s .args .self) (frame s) (s .args .room .now)
+fitting : (c : tie.After-enum-told) → let s = c .before .before .before .before .before .before in FrameFits (s .args .self) (frame s) (s .args .room .now)
 fitting c =
     let s = c .before .before .before .before .before .before in
     fits (s .args .self) (frame s) (s .args .room .now) _ (size (c .before .before .before)) (sym (c .before .before .room-for .ensures) ∙ c .enum-told .given .1)

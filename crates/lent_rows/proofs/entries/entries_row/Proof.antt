@@ -49,7 +49,7 @@ use denote.Triple.Spec.{Meets, tripleOf}
 use denote.Triple.Table.{entered, cited}
 use denote.Triple.Walked.{says, Stays, stay-none, stay-none-slice, gave-slice, walkOf, goes-none, goes-none-slice, goes-gave-slice, Walks, ends-at, walked, walk-meets}
 use denote.Exit.{yes}
-use Rattle.dss_salvage.specs.SalvageCall.{Salvages}
+use Rattle.dss_salvage_call.specs.SalvageCall.{SalvagesRun}
 use Rattle.dss_salvage.specs.declared.SalvageEntry.{SalvageEntry}
 use Rattle.dss_salvage.proofs.SalvageEntry as R
 use Rattle.dss_salvage.proofs.SalvageEntry.Laws as R′
@@ -136,7 +136,7 @@ module _ {M : Type 1} (𝓤 : URA M) (H : Heap 𝓤) (A : Atoms 𝓤) (W : Given
   out-is : (f : Salvaged) (u : Val) (l : List SalvageEntry) → Is G.the-row f (u ∷ []) → Is Sixteen l (row-vals l) → Is T.the-row (out f l) (out-val u l ∷ [])
   out-is f u l is got = ((u ∷ [], (row-vals l, tt)), (refl, (is, ((got .0, ((got .1 .0 .0, as-many R.the-type l ∙ got .1 .0 .1), as-field R.the-type l (got .0) (got .1 .1))), tt))))
 
-  exits : (o : EntriesRow) (w : Val) (zs : List ℕ) → Is T.the-row o (w ∷ []) → Salvages (s .now) xs blanks (o .answer) zs (o .row) → length zs ≡ length xs
+  exits : (o : EntriesRow) (w : Val) (zs : List ℕ) → Is T.the-row o (w ∷ []) → SalvagesRun (s .now) xs blanks (o .answer) zs (o .row) → length zs ≡ length xs
       → ent 𝓤 (⋆ 𝓤 H A (‵ (flft κ q) ∷ ‵ (flft κ′ q′) ∷ ‵ Own ∷ ‵ (finally u8 γ zs) ∷ [])) (Post w)
   exits o w zs o-is e n =
       qed W (‵ (flft κ q) ∷ ‵ (flft κ′ q′) ∷ ‵ Own ∷ ‵ (finally u8 γ zs) ∷ []) ∵
@@ -190,7 +190,7 @@ module _ {M : Type 1} (𝓤 : URA M) (H : Heap 𝓤) (A : Atoms 𝓤) (W : Given
 
   -- what it says of the room's last list and of the row's
   abbrev Said : Salvaged → List ℕ → List SalvageEntry → Type 0
-  Said f zs ws = Salvages (s .now) xs blanks f zs ws
+  Said f zs ws = SalvagesRun (s .now) xs blanks f zs ws
 
   module _ (C : Calls 𝓤 H) (Λ : Loops 𝓤 H) (fm : FmC 𝓤 H (W .laws) C) (known : Triple 𝓤 (C #list) (Listing 𝓤 H A mem run)) where
     walk : Room u8 (length (s .now)) → Room u8 (length xs) → ent 𝓤 (onEntry 𝓤 H A filled.signature (κ, (κ′, tt)) (q, (q′, tt)) a vs) (WpFn 𝓤 H C Λ code.function (sval ∷ xval ∷ val r ∷ []) Post)

@@ -49,17 +49,17 @@ use denote.Triple.Spec.{Meets, tripleOf}
 use denote.Triple.Table.{entered, cited}
 use denote.Triple.Walked.{says, Stays, stay-none, stay-none-slice, gave-slice, walkOf, goes-none, goes-none-slice, goes-gave-slice, Walks, ends-at, walked, walk-meets}
 use denote.Exit.{yes}
-use Rattle.ddm_object.specs.ObjectCalls.{ParsesObjects}
+use Rattle.ddm_rows.specs.ListCalls.{ParsesObjects}
 use Rattle.ddm_object.specs.declared.DdmObject.{DdmObject}
 use Rattle.ddm_object.proofs.DdmObject as R
 use Rattle.ddm_object.proofs.DdmObject.Laws as R′
-use Rattle.ddm_object.specs.declared.ObjectsFound.{ObjectsFound}
-use Rattle.ddm_object.proofs.ObjectsFound as G
-use Rattle.ddm_object.proofs.ObjectsFound.Laws as G′
-use Rattle.ddm_object.proofs.parse_ddm_objects as list
-use Rattle.ddm_object.proofs.parse_ddm_objects.Symbol as list-def
-use Rattle.ddm_object.proofs.parse_ddm_objects.Symbol.{name as #list}
-use Rattle.ddm_object.proofs.parse_ddm_objects.Met as list-thm
+use Rattle.ddm_rows.specs.declared.ObjectsFound.{ObjectsFound}
+use Rattle.ddm_rows.proofs.ObjectsFound as G
+use Rattle.ddm_rows.proofs.ObjectsFound.Laws as G′
+use Rattle.ddm_rows.proofs.parse_ddm_objects as list
+use Rattle.ddm_rows.proofs.parse_ddm_objects.Symbol as list-def
+use Rattle.ddm_rows.proofs.parse_ddm_objects.Symbol.{name as #list}
+use Rattle.ddm_rows.proofs.parse_ddm_objects.Met as list-thm
 use Rattle.lent_rows.specs.declared.objects.ObjectsRow.{ObjectsRow}
 use Rattle.lent_rows.proofs.objects.ObjectsRow as T
 use Rattle.lent_rows.proofs.objects.ObjectsRow.Laws as T′
@@ -256,4 +256,4 @@ objects-row-spec 𝓤 H 𝓜 𝓖 𝓡 =
     entered 𝓤 H (tripleOf 𝓤 H (𝓖 .A) filled.signature (filled.spec 𝓤 H (𝓖 .A) (𝓜 .mem) (𝓡 .run)))
     (tables 𝓤 H 𝓜 𝓡 code.env .C) (tables 𝓤 H 𝓜 𝓡 code.env .Λ) #filled code.function (code.unfolded 𝓤 H 𝓜 𝓡)
     (row-meets 𝓤 H (𝓖 .A) (givenOf 𝓤 H 𝓜 𝓖) (𝓜 .mem) (𝓡 .run) (tablesOf 𝓤 H 𝓜 (tables 𝓤 H 𝓜 𝓡 code.env))
-    (cited 𝓤 H (Listing 𝓤 H (𝓖 .A) (𝓜 .mem) (𝓡 .run)) 𝓜 𝓡 code.env #list list-def.routine code.calls-ddm-object·parse-ddm-objects (list-thm.met 𝓤 H 𝓜 𝓖 𝓡)))
+    (cited 𝓤 H (Listing 𝓤 H (𝓖 .A) (𝓜 .mem) (𝓡 .run)) 𝓜 𝓡 code.env #list list-def.routine code.calls-ddm-rows·parse-ddm-objects (list-thm.met 𝓤 H 𝓜 𝓖 𝓡)))

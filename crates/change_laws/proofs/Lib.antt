@@ -1,0 +1,15 @@
+pub mod Altered
+pub mod AlteredAgain
+pub mod AlteredInSteps
+pub mod AlteredInstances
+pub mod ChangeCall
+pub mod ChangeExamples
+pub mod ChangeLays
+pub mod ChangedList
+pub mod FindingChanged
+pub mod HeadKept
+pub mod Rebuilt
+pub mod ReframedReads
+pub mod RequestCall
+pub mod RequestExamples
+pub mod SoundData

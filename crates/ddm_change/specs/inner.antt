@@ -1,0 +1,4 @@
+pub mod Carried
+pub mod Outlay
+pub mod Planning
+pub mod Searching

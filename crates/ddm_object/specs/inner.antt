@@ -1,0 +1,2 @@
+pub mod RecordsGiven
+pub mod Walked

@@ -1,0 +1,3 @@
+pub mod ListCalls
+pub mod ObjectRows
+pub mod inner

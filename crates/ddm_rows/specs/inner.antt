@@ -1,0 +1,2 @@
+pub mod RowsFilled
+pub mod WalkedList

@@ -1,0 +1,15 @@
+pub mod Bounds
+pub mod ChunkLaws
+pub mod Continuations
+pub mod DeadLengths
+pub mod Ends
+pub mod Framed
+pub mod FramesLaws
+pub mod HeadFields
+pub mod Linked
+pub mod Looking
+pub mod RawLengths
+pub mod SalvageLaws
+pub mod Thin
+pub mod WalkCases
+pub mod WritingLaws

@@ -1,0 +1,2 @@
+pub mod Glancing
+pub mod Walking

@@ -1,0 +1,2 @@
+pub mod MeasuredAll
+pub mod TakingAll

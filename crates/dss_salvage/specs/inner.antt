@@ -1,0 +1,2 @@
+pub mod SalvageMeasure
+pub mod SalvageSteps
