@@ -28,6 +28,7 @@ abbrev pub builtAll : List (ℕ × List ℕ) → List ℕ
 builtAll [] = []
 builtAll (x ∷ l) = built (x .0) (x .1) ++ builtAll l
 
+-- each with a code point of two bytes, and no more data than a length of eight can say
 abbrev pub Fit : List (ℕ × List ℕ) → Type 0
 Fit [] = Unit {0}
 Fit (x ∷ l) = (x .0 < 65536) × (length (x .1) < 2 ^ 63) × Fit l

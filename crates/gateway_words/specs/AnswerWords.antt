@@ -49,9 +49,9 @@ pub record Leaves (answer room words : List ℕ) (r : ℕ) (room-after words-aft
   pub room-is : room-after ≡ room
 
 -- And of a call that is lent a row as well.
-pub record LeavesRow (answer room row words : List ℕ) (r : ℕ) (room-after row-after words-after : List ℕ) : Type 0 where
+pub record LeavesRow (answer area row words : List ℕ) (r : ℕ) (room-after row-after words-after : List ℕ) : Type 0 where
   pub answers : Answered answer words r words-after
-  pub room-is : room-after ≡ room
+  pub room-is : room-after ≡ area
   pub row-is : row-after ≡ row
 
 -- bytes at the room's first byte: how many, or 9

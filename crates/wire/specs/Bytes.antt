@@ -64,10 +64,11 @@ laid r a b = pick (leb (a + length b) (length r)) (splice r a b) r
 abbrev pub landed : {A : Type 0} → Bool → List A → List A → List A
 landed fits r b = pick fits (splice r 0 b) r
 
+-- each of them is a byte
 abbrev pub Octets : List ℕ → Type 0
 Octets s = (i : ℕ) → getD s i 0 < 256
 
--- the words of all records of a list, one record behind the other
+-- what is made of each of a list, one behind the other
 unfoldable pub joined : {A : Type 0} → (A → List ℕ) → List A → List ℕ
-joined words [] = []
-joined words (x ∷ xs) = words x ++ joined words xs
+joined made [] = []
+joined made (x ∷ xs) = made x ++ joined made xs
