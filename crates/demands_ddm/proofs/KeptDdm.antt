@@ -57,7 +57,7 @@ use Rattle.gateway_object.proofs.lattrugone_as_u32.Reads as lattrugone-as-u32
 use Rattle.gateway_object.proofs.lattrugone_object.Reads as lattrugone-object
 use Rattle.gateway_object.proofs.lattrugone_find_param.Reads as lattrugone-find-param
 use Rattle.gateway_object.proofs.lattrugone_strip_markers.Reads as lattrugone-strip-markers
-use Rattle.gateway_object_rows.specs.ListWords.{ObjectsWords, ParametersWords}
+use Rattle.gateway_object_rows.specs.ListWords.{objectLen, ObjectsWords, ParametersWords}
 use Rattle.gateway_object_rows.proofs.lattrugone_parameters.Reads as lattrugone-parameters
 use Rattle.gateway_object_rows.proofs.lattrugone_objects.Reads as lattrugone-objects
 use Rattle.gateway_builder.specs.BuilderWords.{builderOf, adding}
@@ -176,7 +176,7 @@ module _ (l : List (ℕ × List ℕ)) (fit : Fit l) (bytes : RefT (List ℕ)) (b
         (fact 𝓤 (ListsAs l (builtAll l) (work .now) (row .now) r workAfter rowAfter))
     objects-are-listed = objects-back 𝓤 H A mem routines κs bytes work row r workAfter rowAfter l fit enough built-so
 
-  module _ (κs : Lfts 4) (row words : RefT (List ℕ)) (rowAfter said : List ℕ) (enough : length l * answerLen ≤ length (row .now)) (eight : answerLen ≤ length (words .now)) (r : ℕ) where
+  module _ (κs : Lfts 4) (row words : RefT (List ℕ)) (rowAfter said : List ℕ) (enough : length l * objectLen ≤ length (row .now)) (eight : answerLen ≤ length (words .now)) (r : ℕ) where
     -- by `lattrugone_parameters`
     pub parameters-are-listed-in-words : lattrugone-parameters.Post κs (bytes, (work, (row, (words, tt)))) r (bytes, (at-last work workAfter, (at-last row rowAfter, (at-last words said, tt))))
         → AnswersList l (builtAll l) (work .now) (row .now) (words .now) r workAfter rowAfter said
@@ -262,7 +262,7 @@ module _ (cp : ℕ) (l : List (ℕ × List ℕ)) (fits : FitsWidth cp (builtAll 
         request-back-said cp l fits fit (builderOf cp fill) (content .now) (words-filled cp added) (room .now) after enough (run .now) at there (words .now) n said eight p (work .now) (words′ .now) r workAfter said′ eight′ q
 
     pub request-is-listed-in-words : (κu : Lfts 4) (bytes work″ row words″ : RefT (List ℕ)) (m : ℕ) (workAfter″ rowAfter said″ : List ℕ)
-        → bytes .now ≡ take (getD said′ 5 0) (drop (getD said′ 4 0) (run .now)) → length l * answerLen ≤ length (row .now) → answerLen ≤ length (words″ .now)
+        → bytes .now ≡ take (getD said′ 5 0) (drop (getD said′ 4 0) (run .now)) → length l * objectLen ≤ length (row .now) → answerLen ≤ length (words″ .now)
         → lattrugone-parameters.Post κu (bytes, (work″, (row, (words″, tt)))) m (bytes, (at-last work″ workAfter″, (at-last row rowAfter, (at-last words″ said″, tt))))
         → AnswersList l (bytes .now) (work″ .now) (row .now) (words″ .now) m workAfter″ rowAfter said″
     request-is-listed-in-words κu bytes work″ row words″ m workAfter″ rowAfter said″ e k eight″ y =
