@@ -1,4 +1,6 @@
 // Why a call refuses, and where: document 01, "Answer numbers", and document 02 from 12 on. The Rust's `ProtoError` is 2, 3 and 4 of these.
+#![tactic(auto)]
+
 ghost use Rattle.std.specs.Prelude.{◌≡◌, get_or};
 ghost use Rattle.answer.specs.Numbers.{number_of, not_whole, values_of};
 ghost use Rattle.answer.specs.Rooms.{no_room, out_of_bounds, room_for};

@@ -3,7 +3,7 @@ use Prim.Native.Nat.{ℕ}
 use mathlib.Core.Path.{◌≡◌, sym, ◌∙◌}
 use mathlib.Core.List.{List}
 use contract.Lifetimes.{Lfts}
-use denote.Ref.{MutBor, at_last}
+use denote.Ref.{Bor, MutBor, at_last}
 use Rattle.answer.specs.declared.Laid.{Laid}
 use Rattle.ddm_builder.specs.declared.DdmBuilder.{DdmBuilder}
 use Rattle.ddm_builder.specs.declared.Added.{Added}
@@ -44,7 +44,7 @@ lay_header_one κs cp n room l l' p q = p ∙ sym q
 pub new_one : (κs : Lfts 0) (cp : ℕ) (r r' : DdmBuilder) → new.Post κs (cp, tt) r (cp, tt) → new.Post κs (cp, tt) r' (cp, tt) → r ≡ r'
 new_one κs cp r r' p q = p ∙ sym q
 
-module _ (b : DdmBuilder) (cp n : ℕ) (d room : MutBor (List ℕ)) (r r' : Added) (l l' : List ℕ) where
+module _ (b : DdmBuilder) (cp n : ℕ) (d : Bor (List ℕ)) (room : MutBor (List ℕ)) (r r' : Added) (l l' : List ℕ) where
   pub add_code_point_one : (κs : Lfts 2) → add_code_point.Post κs (b, (cp, (d, (room, tt)))) r (b, (cp, (d, (at_last room l, tt))))
       → add_code_point.Post κs (b, (cp, (d, (room, tt)))) r' (b, (cp, (d, (at_last room l', tt)))) → (r ≡ r') × (l ≡ l')
   add_code_point_one κs p q = (p.answers ∙ sym q.answers, p.room_is ∙ sym q.room_is)
@@ -66,7 +66,7 @@ total_length_one κs b r r' p q = p ∙ sym q
 
 -- ---- objects laid down at a room's start
 
-module _ (cp n : ℕ) (d room : MutBor (List ℕ)) (r r' : Laid) (l l' : List ℕ) where
+module _ (cp n : ℕ) (d : Bor (List ℕ)) (room : MutBor (List ℕ)) (r r' : Laid) (l l' : List ℕ) where
   pub build_one : (κs : Lfts 2) (b : DdmBuilder) → build.Post κs (b, (d, (room, tt))) r (b, (d, (at_last room l, tt)))
       → build.Post κs (b, (d, (room, tt))) r' (b, (d, (at_last room l', tt))) → (r ≡ r') × (l ≡ l')
   build_one κs b p q = (p.answers ∙ sym q.answers, p.room_is ∙ sym q.room_is)

@@ -4,7 +4,7 @@ use mathlib.Core.Path.{◌≡◌, sym, ◌∙◌}
 use mathlib.Core.Bool.{Bool}
 use mathlib.Core.List.{List}
 use contract.Lifetimes.{Lfts}
-use denote.Ref.{MutBor, at_last}
+use denote.Ref.{Bor, MutBor, at_last}
 use Rattle.answer.specs.declared.Laid.{Laid}
 use Rattle.ddm_length.specs.declared.Marshaled.{Marshaled}
 use Rattle.ddm_length.proofs.length_at.Reads as length_at
@@ -18,39 +18,39 @@ use Rattle.ddm_length.proofs.strip_extended_ddm_continuation_markers.Reads as st
 
 -- ---- lengths
 
-pub length_at_one : (κs : Lfts 1) (b : MutBor (List ℕ)) (place : ℕ) (r r' : Marshaled)
+pub length_at_one : (κs : Lfts 1) (b : Bor (List ℕ)) (place : ℕ) (r r' : Marshaled)
     → length_at.Post κs (b, (place, tt)) r (b, (place, tt)) → length_at.Post κs (b, (place, tt)) r' (b, (place, tt)) → r ≡ r'
 length_at_one κs b place r r' p q = p ∙ sym q
 
-pub parse_marshaled_length_one : (κs : Lfts 1) (b : MutBor (List ℕ)) (r r' : Marshaled)
+pub parse_marshaled_length_one : (κs : Lfts 1) (b : Bor (List ℕ)) (r r' : Marshaled)
     → parse_marshaled_length.Post κs (b, tt) r (b, tt) → parse_marshaled_length.Post κs (b, tt) r' (b, tt) → r ≡ r'
 parse_marshaled_length_one κs b r r' p q = p ∙ sym q
 
-pub measure_at_one : (κs : Lfts 1) (b : MutBor (List ℕ)) (place : ℕ) (r r' : Marshaled)
+pub measure_at_one : (κs : Lfts 1) (b : Bor (List ℕ)) (place : ℕ) (r r' : Marshaled)
     → measure_at.Post κs (b, (place, tt)) r (b, (place, tt)) → measure_at.Post κs (b, (place, tt)) r' (b, (place, tt)) → r ≡ r'
 measure_at_one κs b place r r' p q = p ∙ sym q
 
-pub measure_object_one : (κs : Lfts 1) (b : MutBor (List ℕ)) (r r' : Marshaled)
+pub measure_object_one : (κs : Lfts 1) (b : Bor (List ℕ)) (r r' : Marshaled)
     → measure_object.Post κs (b, tt) r (b, tt) → measure_object.Post κs (b, tt) r' (b, tt) → r ≡ r'
 measure_object_one κs b r r' p q = p ∙ sym q
 
 -- ---- markers
 
-pub has_markers_one : (κs : Lfts 1) (d : MutBor (List ℕ)) (r r' : Bool)
+pub has_markers_one : (κs : Lfts 1) (d : Bor (List ℕ)) (r r' : Bool)
     → has_markers.Post κs (d, tt) r (d, tt) → has_markers.Post κs (d, tt) r' (d, tt) → r ≡ r'
 has_markers_one κs d r r' p q = p ∙ sym q
 
-pub unmarked_len_one : (κs : Lfts 1) (d : MutBor (List ℕ)) (r r' : ℕ)
+pub unmarked_len_one : (κs : Lfts 1) (d : Bor (List ℕ)) (r r' : ℕ)
     → unmarked_len.Post κs (d, tt) r (d, tt) → unmarked_len.Post κs (d, tt) r' (d, tt) → r ≡ r'
 unmarked_len_one κs d r r' p q = p ∙ sym q
 
 -- ---- rooms
 
-pub lay_one : (κs : Lfts 2) (d room : MutBor (List ℕ)) (l l' : List ℕ)
+pub lay_one : (κs : Lfts 2) (d : Bor (List ℕ)) (room : MutBor (List ℕ)) (l l' : List ℕ)
     → lay.Post κs (d, (room, tt)) tt (d, (at_last room l, tt)) → lay.Post κs (d, (room, tt)) tt (d, (at_last room l', tt)) → l ≡ l'
 lay_one κs d room l l' p q = p ∙ sym q
 
-pub strip_one : (κs : Lfts 2) (d work : MutBor (List ℕ)) (r r' : Laid) (l l' : List ℕ)
+pub strip_one : (κs : Lfts 2) (d : Bor (List ℕ)) (work : MutBor (List ℕ)) (r r' : Laid) (l l' : List ℕ)
     → strip.Post κs (d, (work, tt)) r (d, (at_last work l, tt)) → strip.Post κs (d, (work, tt)) r' (d, (at_last work l', tt))
     → (r ≡ r') × (l ≡ l')
 strip_one κs d work r r' l l' p q = (p.answers ∙ sym q.answers, p.room_is ∙ sym q.room_is)

@@ -1,4 +1,6 @@
 // The length of a DDM object or parameter, and the removal of continuation markers: document 01, "DDM".
+#![tactic(auto)]
+
 ghost use Rattle.std.specs.Prelude.{◌≡◌, true, ◌≤◌, ◌<◌, length, drop};
 ghost use Rattle.wire.specs.Bytes.{laid};
 ghost use Rattle.answer.specs.Rooms.{Lays};
@@ -243,7 +245,7 @@ pub fn lay(data: &[u8], room: &mut [u8])
     ensures { room.new ≡ laid room.old 0 «data».now }
 {
     if data.len() <= room.len() {
-        bytes::copy(data, room);
+        room[..data.len()].copy_from_slice(data);
     }
 }
 

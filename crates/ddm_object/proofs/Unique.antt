@@ -3,7 +3,7 @@ use Prim.Native.Nat.{ℕ}
 use mathlib.Core.Path.{◌≡◌, sym, ◌∙◌}
 use mathlib.Core.List.{List}
 use contract.Lifetimes.{Lfts}
-use denote.Ref.{MutBor, at_last}
+use denote.Ref.{Bor, MutBor, at_last}
 use Rattle.ddm_object.specs.declared.DdmObject.{DdmObject}
 use Rattle.ddm_object.specs.declared.ObjectFound.{ObjectFound}
 use Rattle.ddm_object.specs.declared.U16Found.{U16Found}
@@ -22,7 +22,7 @@ use Rattle.ddm_object.proofs.step_at.Reads as step_at
 
 -- ---- one object
 
-module _ (run work : MutBor (List ℕ)) (at : ℕ) (r r' : ObjectFound) (l l' : List ℕ) where
+module _ (run : Bor (List ℕ)) (work : MutBor (List ℕ)) (at : ℕ) (r r' : ObjectFound) (l l' : List ℕ) where
   pub object_at_one : (κs : Lfts 2) → object_at.Post κs (run, (at, (work, tt))) r (run, (at, (at_last work l, tt)))
       → object_at.Post κs (run, (at, (work, tt))) r' (run, (at, (at_last work l', tt))) → (r ≡ r') × (l ≡ l')
   object_at_one κs p q = (p.answers ∙ sym q.answers, p.work_is ∙ sym q.work_is)
@@ -36,7 +36,7 @@ module _ (run work : MutBor (List ℕ)) (at : ℕ) (r r' : ObjectFound) (l l' : 
   find_param_one κs p q = (p.answers ∙ sym q.answers, p.work_is ∙ sym q.work_is)
 
 -- the data: the bytes, and where they start; run and work area are lent shared, and stay
-pub object_data_one : (κs : Lfts 1) (run work r r' : MutBor (List ℕ)) (at : ℕ)
+pub object_data_one : (κs : Lfts 1) (run work r r' : Bor (List ℕ)) (at : ℕ)
     → object_data.Post κs (run, (at, (work, tt))) r (run, (at, (work, tt))) → object_data.Post κs (run, (at, (work, tt))) r' (run, (at, (work, tt)))
     → (r.now ≡ r'.now) × (r.ref_ptr ≡ r'.ref_ptr)
 object_data_one κs run work r r' at p q = (p.bytes_are ∙ sym q.bytes_are, p.starts ∙ sym q.starts)
@@ -46,16 +46,16 @@ total_length_one κs o r r' p q = p ∙ sym q
 
 -- ---- numbers
 
-pub as_u16_one : (κs : Lfts 1) (d : MutBor (List ℕ)) (r r' : U16Found) → as_u16.Post κs (d, tt) r (d, tt) → as_u16.Post κs (d, tt) r' (d, tt) → r ≡ r'
+pub as_u16_one : (κs : Lfts 1) (d : Bor (List ℕ)) (r r' : U16Found) → as_u16.Post κs (d, tt) r (d, tt) → as_u16.Post κs (d, tt) r' (d, tt) → r ≡ r'
 as_u16_one κs d r r' p q = p ∙ sym q
 
-pub as_u32_one : (κs : Lfts 1) (d : MutBor (List ℕ)) (r r' : U32Found) → as_u32.Post κs (d, tt) r (d, tt) → as_u32.Post κs (d, tt) r' (d, tt) → r ≡ r'
+pub as_u32_one : (κs : Lfts 1) (d : Bor (List ℕ)) (r r' : U32Found) → as_u32.Post κs (d, tt) r (d, tt) → as_u32.Post κs (d, tt) r' (d, tt) → r ≡ r'
 as_u32_one κs d r r' p q = p ∙ sym q
 
-pub as_i32_one : (κs : Lfts 1) (d : MutBor (List ℕ)) (r r' : I32Found) → as_i32.Post κs (d, tt) r (d, tt) → as_i32.Post κs (d, tt) r' (d, tt) → r ≡ r'
+pub as_i32_one : (κs : Lfts 1) (d : Bor (List ℕ)) (r r' : I32Found) → as_i32.Post κs (d, tt) r (d, tt) → as_i32.Post κs (d, tt) r' (d, tt) → r ≡ r'
 as_i32_one κs d r r' p q = p ∙ sym q
 
 -- ---- the walk over parameters
 
-pub step_at_one : (κs : Lfts 1) (d : MutBor (List ℕ)) (at : ℕ) (r r' : Stepped) → step_at.Post κs (d, (at, tt)) r (d, (at, tt)) → step_at.Post κs (d, (at, tt)) r' (d, (at, tt)) → r ≡ r'
+pub step_at_one : (κs : Lfts 1) (d : Bor (List ℕ)) (at : ℕ) (r r' : Stepped) → step_at.Post κs (d, (at, tt)) r (d, (at, tt)) → step_at.Post κs (d, (at, tt)) r' (d, (at, tt)) → r ≡ r'
 step_at_one κs d at r r' p q = p ∙ sym q

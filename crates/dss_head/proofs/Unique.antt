@@ -7,7 +7,7 @@ use mathlib.Core.List.{List}
 use lib.ListN.{length}
 use borrow.Author.Tests.{le-leb}
 use contract.Lifetimes.{Lfts}
-use denote.Ref.{MutBor, at_last}
+use denote.Ref.{Bor, MutBor, at_last}
 use Rattle.wire.specs.Bytes.{laid}
 use Rattle.wire.proofs.WireLaws.{pick_yes}
 use Rattle.answer.specs.Rooms.{laid_at_start}
@@ -75,7 +75,7 @@ flags_from_byte_one κs b r r' p q = p ∙ sym q
 
 -- ---- heads
 
-pub parse_one : (κs : Lfts 1) (s : MutBor (List ℕ)) (r r' : HeadFound) → parse.Post κs (s, tt) r (s, tt) → parse.Post κs (s, tt) r' (s, tt) → r ≡ r'
+pub parse_one : (κs : Lfts 1) (s : Bor (List ℕ)) (r r' : HeadFound) → parse.Post κs (s, tt) r (s, tt) → parse.Post κs (s, tt) r' (s, tt) → r ≡ r'
 parse_one κs s r r' p q = p ∙ sym q
 
 pub serialize_one : (κs : Lfts 1) (h : DssHeader) (room : MutBor (List ℕ)) (r r' : Laid) (l l' : List ℕ)
@@ -84,7 +84,7 @@ pub serialize_one : (κs : Lfts 1) (h : DssHeader) (room : MutBor (List ℕ)) (r
 serialize_one κs h room r r' l l' p q = (p.answers ∙ sym q.answers, p.room_is ∙ sym q.room_is)
 
 -- and one outcome is allowed, whatever the head, the run and the room
-pub parse_some : (κs : Lfts 1) (s : MutBor (List ℕ)) → parse.Post κs (s, tt) (head_at s.now 0) (s, tt)
+pub parse_some : (κs : Lfts 1) (s : Bor (List ℕ)) → parse.Post κs (s, tt) (head_at s.now 0) (s, tt)
 parse_some κs s = refl
 
 pub serialize_some : (κs : Lfts 1) (h : DssHeader) (room : MutBor (List ℕ))
@@ -92,7 +92,7 @@ pub serialize_some : (κs : Lfts 1) (h : DssHeader) (room : MutBor (List ℕ))
 serialize_some κs h room = record { answers = refl; room_is = refl }
 
 -- whatever serialize answers and leaves in a room of six bytes or more, and whatever parse then answers of that room
-pub parse_back : (κs κs' : Lfts 1) (h : DssHeader) (room run : MutBor (List ℕ)) (r : Laid) (l : List ℕ) (found : HeadFound)
+pub parse_back : (κs κs' : Lfts 1) (h : DssHeader) (room : MutBor (List ℕ)) (run : Bor (List ℕ)) (r : Laid) (l : List ℕ) (found : HeadFound)
     → h.length < 65536 → h.correlation_id < 65536 → 6 ≤ length room.now
     → serialize.Post κs (h, (room, tt)) r (h, (at_last room l, tt)) → run.now ≡ l → parse.Post κs' (run, tt) found (run, tt)
     → (r ≡ Bytes 6) × (found ≡ Head (as_read h))

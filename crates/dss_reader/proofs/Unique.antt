@@ -13,7 +13,7 @@ use prog.Routine.{Routine}
 use types.Logic.{Logic}
 use contract.Lifetimes.{Lfts}
 use contract.Monad.{Fun, fact}
-use denote.Ref.{MutBor, at_last}
+use denote.Ref.{Bor, MutBor, at_last}
 use Rattle.wire.specs.Bytes.{pick}
 use Rattle.wire.specs.Parts.{start_at}
 use Rattle.dss_frame.specs.Frames.{all_frames}
@@ -44,7 +44,7 @@ new_one κs r r' p q = p ∙ sym q
 pub new_some : (κs : Lfts 0) → new.Post κs tt (stands_at 0) tt
 new_some κs = refl
 
-module _ (κs : Lfts 1) (d : DssReader) (run : MutBor (List ℕ)) where
+module _ (κs : Lfts 1) (d : DssReader) (run : Bor (List ℕ)) where
   pub remaining_one : (r r' : ℕ) → remaining.Post κs (d, (run, tt)) r (d, (run, tt)) → remaining.Post κs (d, (run, tt)) r' (d, (run, tt)) → r ≡ r'
   remaining_one r r' p q = p ∙ sym q
 
@@ -52,7 +52,7 @@ module _ (κs : Lfts 1) (d : DssReader) (run : MutBor (List ℕ)) where
   remaining_some = refl
 
   -- the part: its bytes, and where it starts
-  pub into_remaining_one : (r r' : MutBor (List ℕ)) → into_remaining.Post κs (d, (run, tt)) r (d, (run, tt)) → into_remaining.Post κs (d, (run, tt)) r' (d, (run, tt)) → (r.now ≡ r'.now) × (r.ref_ptr ≡ r'.ref_ptr)
+  pub into_remaining_one : (r r' : Bor (List ℕ)) → into_remaining.Post κs (d, (run, tt)) r (d, (run, tt)) → into_remaining.Post κs (d, (run, tt)) r' (d, (run, tt)) → (r.now ≡ r'.now) × (r.ref_ptr ≡ r'.ref_ptr)
   into_remaining_one r r' p q = (p.bytes_are ∙ sym q.bytes_are, p.starts ∙ sym q.starts)
 
   pub into_remaining_some : into_remaining.Post κs (d, (run, tt))
@@ -77,14 +77,14 @@ module _ (κs : Lfts 1) (d : DssReader) (run : MutBor (List ℕ)) where
   pub first_complete_frame_len_some : first_complete_frame_len.Post κs (run, tt) (frame_end run.now 0) (run, tt)
   first_complete_frame_len_some = refl
 
-module _ (κs : Lfts 1) (run : MutBor (List ℕ)) (at size rows : ℕ) where
+module _ (κs : Lfts 1) (run : Bor (List ℕ)) (at size rows : ℕ) where
   pub measure_frames_one : (r r' : FramesRead) → measure_frames.Post κs (run, (at, (size, (rows, tt)))) r (run, (at, (size, (rows, tt)))) → measure_frames.Post κs (run, (at, (size, (rows, tt)))) r' (run, (at, (size, (rows, tt)))) → r ≡ r'
   measure_frames_one r r' p q = p ∙ sym q
 
   pub measure_frames_some : measure_frames.Post κs (run, (at, (size, (rows, tt)))) (given_frames run.now at size rows (all_frames run.now at)) (run, (at, (size, (rows, tt))))
   measure_frames_some = refl
 
-module _ (κs : Lfts 2) (run room : MutBor (List ℕ)) (at rows : ℕ) where
+module _ (κs : Lfts 2) (run : Bor (List ℕ)) (room : MutBor (List ℕ)) (at rows : ℕ) where
   pub read_all_one : (r r' : FramesRead) (l l' : List ℕ)
       → read_all.Post κs (run, (at, (room, (rows, tt)))) r (run, (at, (at_last room l, (rows, tt))))
       → read_all.Post κs (run, (at, (room, (rows, tt)))) r' (run, (at, (at_last room l', (rows, tt))))
@@ -94,7 +94,7 @@ module _ (κs : Lfts 2) (run room : MutBor (List ℕ)) (at rows : ℕ) where
 pub records_in_one : (κs : Lfts 0) (read : FramesRead) (r r' : ℕ) → records_in.Post κs (read, tt) r (read, tt) → records_in.Post κs (read, tt) r' (read, tt) → r ≡ r'
 records_in_one κs read r r' p q = p ∙ sym q
 
-module _ (κs : Lfts 2) (d : DssReader) (run room : MutBor (List ℕ)) where
+module _ (κs : Lfts 2) (d : DssReader) (run : Bor (List ℕ)) (room : MutBor (List ℕ)) where
   -- the answer holds the position after
   pub next_frame_one : (r r' : FrameRead) (l l' : List ℕ)
       → next_frame.Post κs (d, (run, (room, tt))) r (d, (run, (at_last room l, tt)))
@@ -107,7 +107,7 @@ module _ (κs : Lfts 2) (d : DssReader) (run room : MutBor (List ℕ)) where
   next_frame_some = record { answers = refl; room_is = refl }
 
 -- `read_all_frames` has no `Reads`, since a parameter is a reference to structs: its `clauses` are named. In any model they are the record.
-pub read_all_frames_says : {M : Type 1} {𝓤 : Ura M} (𝓛 : Logic 𝓤) (mem : Memory → SProp 𝓤) (run : Routine → Fun 𝓤) (κs : Lfts 3) (d : DssReader) (s room : MutBor (List ℕ)) (row : MutBor (List DssFrame)) (r : FramesRead) (l : List ℕ) (k : List DssFrame)
+pub read_all_frames_says : {M : Type 1} {𝓤 : Ura M} (𝓛 : Logic 𝓤) (mem : Memory → SProp 𝓤) (run : Routine → Fun 𝓤) (κs : Lfts 3) (d : DssReader) (s : Bor (List ℕ)) (room : MutBor (List ℕ)) (row : MutBor (List DssFrame)) (r : FramesRead) (l : List ℕ) (k : List DssFrame)
     → (read_all_frames.clauses 𝓛 mem run κs (d, (s, (room, (row, tt))))).ensures tt r (d, (s, (at_last room l, (at_last row k, tt)))) ≡ fact 𝓤 (ReadAllFrames s.now d.position room.now row.now r l k)
 read_all_frames_says 𝓛 mem run κs d s room row r l k = refl
 

@@ -11,7 +11,7 @@ use prog.Routine.{Routine}
 use types.Logic.{Logic}
 use contract.Lifetimes.{Lfts}
 use contract.Monad.{Fun, fact}
-use denote.Ref.{MutBor, at_last}
+use denote.Ref.{Bor, MutBor, at_last}
 use Rattle.wire.specs.Bytes.{landed}
 use Rattle.dss_frame.specs.Salvage.{salvaged}
 use Rattle.dss_salvage.specs.declared.SalvageEntry.{SalvageEntry}
@@ -22,7 +22,7 @@ use Rattle.dss_salvage_call.specs.contracts.salvage as salvage
 use Rattle.dss_salvage_call.proofs.gather_entries.Reads as gather
 use Rattle.dss_salvage_call.proofs.entries_in.Reads as entries_in
 
-pub salvage_says : {M : Type 1} {𝓤 : Ura M} (𝓛 : Logic 𝓤) (mem : Memory → SProp 𝓤) (run : Routine → Fun 𝓤) (κs : Lfts 3) (s room : MutBor (List ℕ)) (row : MutBor (List SalvageEntry)) (r : Salvaged) (l : List ℕ) (k : List SalvageEntry)
+pub salvage_says : {M : Type 1} {𝓤 : Ura M} (𝓛 : Logic 𝓤) (mem : Memory → SProp 𝓤) (run : Routine → Fun 𝓤) (κs : Lfts 3) (s : Bor (List ℕ)) (room : MutBor (List ℕ)) (row : MutBor (List SalvageEntry)) (r : Salvaged) (l : List ℕ) (k : List SalvageEntry)
     → (salvage.clauses 𝓛 mem run κs (s, (room, (row, tt)))).ensures tt r (s, (at_last room l, (at_last row k, tt))) ≡ fact 𝓤 (SalvagesRun s.now room.now row.now r l k)
 salvage_says 𝓛 mem run κs s room row r l k = refl
 
@@ -36,7 +36,7 @@ module _ (s room : List ℕ) (row : List SalvageEntry) where
       (landed (entries_fit s (salvaged s).entries (length room) (length row)) row (salvaged_row s 0 (salvaged s).entries))
   salvage_some = record { answers = refl; room_is = refl; row_is = refl }
 
-module _ (κs : Lfts 2) (s room : MutBor (List ℕ)) (rows : ℕ) where
+module _ (κs : Lfts 2) (s : Bor (List ℕ)) (room : MutBor (List ℕ)) (rows : ℕ) where
   pub gather_one : (r r' : Salvaged) (l l' : List ℕ)
       → gather.Post κs (s, (room, (rows, tt))) r (s, (at_last room l, (rows, tt)))
       → gather.Post κs (s, (room, (rows, tt))) r' (s, (at_last room l', (rows, tt)))

@@ -11,7 +11,7 @@ use prog.Routine.{Routine}
 use types.Logic.{Logic}
 use contract.Lifetimes.{Lfts}
 use contract.Monad.{Fun, fact}
-use denote.Ref.{MutBor, at_last}
+use denote.Ref.{Bor, MutBor, at_last}
 use Rattle.wire.specs.Bytes.{splice}
 use Rattle.dss_salvage.specs.declared.SalvageEntry.{SalvageEntry}
 use Rattle.dss_frame.specs.inner.RowStart.{starts_at}
@@ -22,7 +22,7 @@ abbrev pub EntryRowFilled : List ℕ → ℕ → ℕ → List SalvageEntry → L
 EntryRowFilled s p count row after = after ≡ splice row 0 (entry_records_from (length row) s (starts_at p count))
 
 -- it is the function's own clause, in any model
-pub fill_says : {M : Type 1} {𝓤 : Ura M} (𝓛 : Logic 𝓤) (mem : Memory → SProp 𝓤) (run : Routine → Fun 𝓤) (κs : Lfts 2) (s : MutBor (List ℕ)) (p count : ℕ) (row : MutBor (List SalvageEntry)) (after : List SalvageEntry)
+pub fill_says : {M : Type 1} {𝓤 : Ura M} (𝓛 : Logic 𝓤) (mem : Memory → SProp 𝓤) (run : Routine → Fun 𝓤) (κs : Lfts 2) (s : Bor (List ℕ)) (p count : ℕ) (row : MutBor (List SalvageEntry)) (after : List SalvageEntry)
     → (fill.clauses 𝓛 mem run κs (s, (p, (count, (row, tt))))).ensures tt tt (s, (p, (count, (at_last row after, tt)))) ≡ fact 𝓤 (EntryRowFilled s.now p count row.now after)
 fill_says 𝓛 mem run κs s p count row after = refl
 

@@ -5,7 +5,7 @@ use mathlib.Core.Path.{◌≡◌, refl, sym, ◌∙◌}
 use mathlib.Core.List.{List}
 use lib.ListN.{length}
 use contract.Lifetimes.{Lfts}
-use denote.Ref.{MutBor, at_last}
+use denote.Ref.{Bor, MutBor, at_last}
 use Rattle.dss_frame.specs.declared.Rules.{Rules}
 use Rattle.dss_frame.specs.Reading.{read_at}
 use Rattle.dss_measure.specs.Measure.{measured_at}
@@ -14,17 +14,17 @@ use Rattle.dss_take.specs.Take.{taken_of, room_read}
 use Rattle.dss_take.proofs.measure.Reads as measuring
 use Rattle.dss_take.proofs.take.Reads as taking
 
-pub measure_one : (κs : Lfts 1) (rules : Rules) (run : MutBor (List ℕ)) (at : ℕ) (r r' : Measured)
+pub measure_one : (κs : Lfts 1) (rules : Rules) (run : Bor (List ℕ)) (at : ℕ) (r r' : Measured)
     → measuring.Post κs (rules, (run, (at, tt))) r (rules, (run, (at, tt))) → measuring.Post κs (rules, (run, (at, tt))) r' (rules, (run, (at, tt)))
     → r ≡ r'
 measure_one κs rules run at r r' p q = p ∙ sym q
 
 -- and one outcome is allowed, whatever the rules, the run and the place
-pub measure_some : (κs : Lfts 1) (rules : Rules) (run : MutBor (List ℕ)) (at : ℕ)
+pub measure_some : (κs : Lfts 1) (rules : Rules) (run : Bor (List ℕ)) (at : ℕ)
     → measuring.Post κs (rules, (run, (at, tt))) (measured_at rules run.now at) (rules, (run, (at, tt)))
 measure_some κs rules run at = refl
 
-module _ (κs : Lfts 2) (rules : Rules) (run : MutBor (List ℕ)) (at : ℕ) (room : MutBor (List ℕ)) where
+module _ (κs : Lfts 2) (rules : Rules) (run : Bor (List ℕ)) (at : ℕ) (room : MutBor (List ℕ)) where
   pub take_one : (r r' : Measured) (l l' : List ℕ)
       → taking.Post κs (rules, (run, (at, (room, tt)))) r (rules, (run, (at, (at_last room l, tt))))
       → taking.Post κs (rules, (run, (at, (room, tt)))) r' (rules, (run, (at, (at_last room l', tt))))

@@ -7,7 +7,7 @@ use mathlib.Core.List.{List, [], ◌∷◌}
 use lib.Dec.{leb}
 use lib.ListN.{length}
 use contract.Lifetimes.{Lfts}
-use denote.Ref.{MutBor, at_last}
+use denote.Ref.{Bor, MutBor, at_last}
 use Rattle.wire.specs.Bytes.{pick}
 use Rattle.wire.specs.Parts.{start_at}
 use Rattle.answer.specs.Rooms.{Lays}
@@ -54,17 +54,17 @@ pub finish_one : (κs : Lfts 0) (w r r' : DssWriter) → finish.Post κs (w, tt)
 finish_one κs w r r' p q = p ∙ sym q
 
 -- the part that is handed out: its bytes, and where it starts
-pub data_one : (κs : Lfts 1) (w : DssWriter) (room r r' : MutBor (List ℕ))
+pub data_one : (κs : Lfts 1) (w : DssWriter) (room r r' : Bor (List ℕ))
     → filled_part.Post κs (w, (room, tt)) r (w, (room, tt)) → filled_part.Post κs (w, (room, tt)) r' (w, (room, tt)) → (r.now ≡ r'.now) × (r.ref_ptr ≡ r'.ref_ptr)
 data_one κs w room r r' p q = (p.bytes_are ∙ sym q.bytes_are, p.starts ∙ sym q.starts)
 
 -- one is allowed, whatever is given
-pub data_some : (κs : Lfts 1) (w : DssWriter) (room : MutBor (List ℕ))
+pub data_some : (κs : Lfts 1) (w : DssWriter) (room : Bor (List ℕ))
     → filled_part.Post κs (w, (room, tt)) (record { ref_ptr = start_at room (pick (leb w.fill (length room.now)) 0 (length room.now)); ghost_name = room.ghost_name; now = filled w.fill room.now }) (w, (room, tt))
 data_some κs w room = record { bytes_are = refl; starts = refl }
 
 -- with the mark within a room of three bytes and beyond it: two bytes at its start, and none at its end
-data_parts : (room r : MutBor (List ℕ)) → room.now ≡ 7 ∷ 8 ∷ 9 ∷ []
+data_parts : (room r : Bor (List ℕ)) → room.now ≡ 7 ∷ 8 ∷ 9 ∷ []
     → (FilledAt room 2 r → (r.now ≡ 7 ∷ 8 ∷ []) × (r.ref_ptr ≡ start_at room 0))
     × (FilledAt room 4 r → (r.now ≡ []) × (r.ref_ptr ≡ start_at room 3))
 data_parts room r e = (λ p. (p.bytes_are ∙ ap (filled 2) e, p.starts ∙ ap (starts_of 2) e), λ p. (p.bytes_are ∙ ap (filled 4) e, p.starts ∙ ap (starts_of 4) e))
@@ -85,7 +85,7 @@ next_correlation_id_one κs w r r' p q = p ∙ sym q
 
 -- ---- writing a frame
 
-module _ (κs : Lfts 2) (w : DssWriter) (chained : Bool) (payload room : MutBor (List ℕ)) (r r' : Wrote) (l l' : List ℕ) where
+module _ (κs : Lfts 2) (w : DssWriter) (chained : Bool) (payload : Bor (List ℕ)) (room : MutBor (List ℕ)) (r r' : Wrote) (l l' : List ℕ) where
   pub write_dss_full_one : (t : DssType) (same : Bool)
       → write_dss_full.Post κs (w, (t, (chained, (same, (payload, (room, tt)))))) r (w, (t, (chained, (same, (payload, (at_last room l, tt))))))
       → write_dss_full.Post κs (w, (t, (chained, (same, (payload, (room, tt)))))) r' (w, (t, (chained, (same, (payload, (at_last room l', tt))))))
@@ -125,7 +125,7 @@ module _ (κs : Lfts 2) (w : DssWriter) (chained : Bool) (payload room : MutBor 
 
 -- ---- one frame at the room's first byte
 
-module _ (κs : Lfts 2) (id : ℕ) (chained : Bool) (payload room : MutBor (List ℕ)) (r r' : Laid) (l l' : List ℕ) where
+module _ (κs : Lfts 2) (id : ℕ) (chained : Bool) (payload : Bor (List ℕ)) (room : MutBor (List ℕ)) (r r' : Laid) (l l' : List ℕ) where
   pub build_dss_request_one : build_dss_request.Post κs (id, (chained, (payload, (room, tt)))) r (id, (chained, (payload, (at_last room l, tt))))
       → build_dss_request.Post κs (id, (chained, (payload, (room, tt)))) r' (id, (chained, (payload, (at_last room l', tt))))
       → (r ≡ r') × (l ≡ l')

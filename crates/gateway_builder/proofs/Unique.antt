@@ -4,7 +4,7 @@ use Prim.Native.Nat.{ℕ}
 use mathlib.Core.Path.{◌≡◌, sym, ◌∙◌}
 use mathlib.Core.List.{List}
 use contract.Lifetimes.{Lfts}
-use denote.Ref.{MutBor, at_last}
+use denote.Ref.{Bor, MutBor, at_last}
 use Rattle.gateway_words.proofs.Unique.{leaves_one}
 use Rattle.gateway_builder.proofs.lattrugone_builder_add_code_point.Reads as add_code_point
 use Rattle.gateway_builder.proofs.lattrugone_builder_add_u16.Reads as add_u16
@@ -40,7 +40,7 @@ module _ (κs : Lfts 2) (room words : MutBor (List ℕ)) (r r' : ℕ) (k k' l l'
       → (r ≡ r') × (l ≡ l') × (k ≡ k')
   build_param_u16_one cp val p q = leaves_one p q
 
-module _ (κs : Lfts 3) (d room words : MutBor (List ℕ)) (r r' : ℕ) (k k' l l' : List ℕ) where
+module _ (κs : Lfts 3) (d : Bor (List ℕ)) (room words : MutBor (List ℕ)) (r r' : ℕ) (k k' l l' : List ℕ) where
   pub add_code_point_one : (fill cp : ℕ)
       → add_code_point.Post κs (fill, (cp, (d, (room, (words, tt))))) r (fill, (cp, (d, (at_last room k, (at_last words l, tt)))))
       → add_code_point.Post κs (fill, (cp, (d, (room, (words, tt))))) r' (fill, (cp, (d, (at_last room k', (at_last words l', tt)))))

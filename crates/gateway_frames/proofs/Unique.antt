@@ -4,11 +4,11 @@ use Prim.Native.Nat.{ℕ}
 use mathlib.Core.Path.{◌≡◌}
 use mathlib.Core.List.{List}
 use contract.Lifetimes.{Lfts}
-use denote.Ref.{MutBor, at_last}
+use denote.Ref.{Bor, MutBor, at_last}
 use Rattle.gateway_words.proofs.Unique.{leaves_row_one}
 use Rattle.gateway_frames.proofs.lattrugone_read_all_frames.Reads as read_all_frames
 
-module _ (κs : Lfts 4) (run room row words : MutBor (List ℕ)) (at r r' : ℕ) (k k' m m' l l' : List ℕ) where
+module _ (κs : Lfts 4) (run : Bor (List ℕ)) (room row words : MutBor (List ℕ)) (at r r' : ℕ) (k k' m m' l l' : List ℕ) where
   pub read_all_frames_one : read_all_frames.Post κs (run, (at, (room, (row, (words, tt))))) r (run, (at, (at_last room k, (at_last row m, (at_last words l, tt)))))
       → read_all_frames.Post κs (run, (at, (room, (row, (words, tt))))) r' (run, (at, (at_last room k', (at_last row m', (at_last words l', tt)))))
       → (r ≡ r') × (l ≡ l') × (k ≡ k') × (m ≡ m')

@@ -3,7 +3,7 @@ use Prim.Native.Nat.{ℕ}
 use mathlib.Core.Path.{◌≡◌, sym, ◌∙◌}
 use mathlib.Core.List.{List}
 use contract.Lifetimes.{Lfts}
-use denote.Ref.{MutBor, at_last}
+use denote.Ref.{Bor, MutBor, at_last}
 use Rattle.gateway_words.proofs.Unique.{answered_one}
 use Rattle.gateway_head.proofs.head.lattrugone_decode_dss_length.Reads as decode_dss_length
 use Rattle.gateway_head.proofs.head.lattrugone_is_full_continuation_len.Reads as is_full_continuation_len
@@ -37,7 +37,7 @@ module _ (words : MutBor (List ℕ)) (r r' : ℕ) (l l' : List ℕ) where
       → (r ≡ r') × (l ≡ l')
   type_from_byte_one κs b p q = answered_one p q
 
-  pub head_parse_one : (κs : Lfts 2) (run : MutBor (List ℕ))
+  pub head_parse_one : (κs : Lfts 2) (run : Bor (List ℕ))
       → head_parse.Post κs (run, (words, tt)) r (run, (at_last words l, tt))
       → head_parse.Post κs (run, (words, tt)) r' (run, (at_last words l', tt))
       → (r ≡ r') × (l ≡ l')

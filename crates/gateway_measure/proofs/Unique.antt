@@ -4,7 +4,7 @@ use Prim.Native.Nat.{ℕ}
 use mathlib.Core.Path.{◌≡◌, sym, ◌∙◌}
 use mathlib.Core.List.{List}
 use contract.Lifetimes.{Lfts}
-use denote.Ref.{MutBor, at_last}
+use denote.Ref.{Bor, MutBor, at_last}
 use Rattle.dss_frame.specs.declared.Rules.{Rules}
 use Rattle.dss_measure.specs.declared.Measured.{Measured}
 use Rattle.gateway_words.proofs.Unique.{answered_one}
@@ -21,7 +21,7 @@ pub put_measured_one : (κs : Lfts 1) (words : MutBor (List ℕ)) (at : ℕ) (m 
     → (r ≡ r') × (l ≡ l')
 put_measured_one κs words at m r r' l l' p q = answered_one p q
 
-pub measure_frame_one : (κs : Lfts 2) (rules : ℕ) (run : MutBor (List ℕ)) (at : ℕ) (words : MutBor (List ℕ)) (r r' : ℕ) (l l' : List ℕ)
+pub measure_frame_one : (κs : Lfts 2) (rules : ℕ) (run : Bor (List ℕ)) (at : ℕ) (words : MutBor (List ℕ)) (r r' : ℕ) (l l' : List ℕ)
     → measure_frame.Post κs (rules, (run, (at, (words, tt)))) r (rules, (run, (at, (at_last words l, tt))))
     → measure_frame.Post κs (rules, (run, (at, (words, tt)))) r' (rules, (run, (at, (at_last words l', tt))))
     → (r ≡ r') × (l ≡ l')

@@ -4,7 +4,7 @@ use Prim.Native.Nat.{ℕ}
 use mathlib.Core.Path.{◌≡◌, sym, ◌∙◌}
 use mathlib.Core.List.{List}
 use contract.Lifetimes.{Lfts}
-use denote.Ref.{MutBor, at_last}
+use denote.Ref.{Bor, MutBor, at_last}
 use Rattle.ddm_object.specs.declared.DdmObject.{DdmObject}
 use Rattle.gateway_words.proofs.Unique.{answered_one, leaves_one}
 use Rattle.gateway_object.proofs.lattrugone_parse_marshaled_length.Reads as parse_marshaled_length
@@ -28,7 +28,7 @@ module _ (κs : Lfts 1) (words : MutBor (List ℕ)) (place : ℕ) (o : DdmObject
       → (r ≡ r') × (l ≡ l')
   put_object_one p q = answered_one p q
 
-module _ (κs : Lfts 2) (run words : MutBor (List ℕ)) (r r' : ℕ) (l l' : List ℕ) where
+module _ (κs : Lfts 2) (run : Bor (List ℕ)) (words : MutBor (List ℕ)) (r r' : ℕ) (l l' : List ℕ) where
   pub parse_marshaled_length_one : parse_marshaled_length.Post κs (run, (words, tt)) r (run, (at_last words l, tt))
       → parse_marshaled_length.Post κs (run, (words, tt)) r' (run, (at_last words l', tt))
       → (r ≡ r') × (l ≡ l')
@@ -55,7 +55,7 @@ module _ (κs : Lfts 2) (run words : MutBor (List ℕ)) (r r' : ℕ) (l l' : Lis
       → (r ≡ r') × (l ≡ l')
   as_i32_one p q = answered_one p q
 
-module _ (κs : Lfts 3) (run room words : MutBor (List ℕ)) (r r' : ℕ) (k k' l l' : List ℕ) where
+module _ (κs : Lfts 3) (run : Bor (List ℕ)) (room words : MutBor (List ℕ)) (r r' : ℕ) (k k' l l' : List ℕ) where
   pub strip_markers_one : strip_markers.Post κs (run, (room, (words, tt))) r (run, (at_last room k, (at_last words l, tt)))
       → strip_markers.Post κs (run, (room, (words, tt))) r' (run, (at_last room k', (at_last words l', tt)))
       → (r ≡ r') × (l ≡ l') × (k ≡ k')

@@ -4,12 +4,12 @@ use Prim.Native.Nat.{ℕ}
 use mathlib.Core.Path.{◌≡◌}
 use mathlib.Core.List.{List}
 use contract.Lifetimes.{Lfts}
-use denote.Ref.{MutBor, at_last}
+use denote.Ref.{Bor, MutBor, at_last}
 use Rattle.gateway_words.proofs.Unique.{leaves_row_one}
 use Rattle.gateway_object_rows.proofs.lattrugone_objects.Reads as objects
 use Rattle.gateway_object_rows.proofs.lattrugone_parameters.Reads as parameters
 
-module _ (κs : Lfts 4) (run work row words : MutBor (List ℕ)) (r r' : ℕ) (k k' m m' l l' : List ℕ) where
+module _ (κs : Lfts 4) (run : Bor (List ℕ)) (work row words : MutBor (List ℕ)) (r r' : ℕ) (k k' m m' l l' : List ℕ) where
   pub objects_one : objects.Post κs (run, (work, (row, (words, tt)))) r (run, (at_last work k, (at_last row m, (at_last words l, tt))))
       → objects.Post κs (run, (work, (row, (words, tt)))) r' (run, (at_last work k', (at_last row m', (at_last words l', tt))))
       → (r ≡ r') × (l ≡ l') × (k ≡ k') × (m ≡ m')

@@ -4,11 +4,11 @@ use Prim.Native.Nat.{ℕ}
 use mathlib.Core.Path.{◌≡◌}
 use mathlib.Core.List.{List}
 use contract.Lifetimes.{Lfts}
-use denote.Ref.{MutBor, at_last}
+use denote.Ref.{Bor, MutBor, at_last}
 use Rattle.gateway_words.proofs.Unique.{leaves_row_one}
 use Rattle.gateway_salvage.proofs.lattrugone_salvage.Reads as salvage
 
-module _ (κs : Lfts 4) (run room row words : MutBor (List ℕ)) (r r' : ℕ) (k k' m m' l l' : List ℕ) where
+module _ (κs : Lfts 4) (run : Bor (List ℕ)) (room row words : MutBor (List ℕ)) (r r' : ℕ) (k k' m m' l l' : List ℕ) where
   pub salvage_one : salvage.Post κs (run, (room, (row, (words, tt)))) r (run, (at_last room k, (at_last row m, (at_last words l, tt))))
       → salvage.Post κs (run, (room, (row, (words, tt)))) r' (run, (at_last room k', (at_last row m', (at_last words l', tt))))
       → (r ≡ r') × (l ≡ l') × (k ≡ k') × (m ≡ m')

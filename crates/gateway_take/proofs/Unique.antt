@@ -4,11 +4,11 @@ use Prim.Native.Nat.{ℕ}
 use mathlib.Core.Path.{◌≡◌}
 use mathlib.Core.List.{List}
 use contract.Lifetimes.{Lfts}
-use denote.Ref.{MutBor, at_last}
+use denote.Ref.{Bor, MutBor, at_last}
 use Rattle.gateway_words.proofs.Unique.{leaves_one}
 use Rattle.gateway_take.proofs.lattrugone_take_frame.Reads as take_frame
 
-pub take_frame_one : (κs : Lfts 3) (rules : ℕ) (run : MutBor (List ℕ)) (at : ℕ) (room words : MutBor (List ℕ)) (r r' : ℕ) (k k' l l' : List ℕ)
+pub take_frame_one : (κs : Lfts 3) (rules : ℕ) (run : Bor (List ℕ)) (at : ℕ) (room words : MutBor (List ℕ)) (r r' : ℕ) (k k' l l' : List ℕ)
     → take_frame.Post κs (rules, (run, (at, (room, (words, tt))))) r (rules, (run, (at, (at_last room k, (at_last words l, tt)))))
     → take_frame.Post κs (rules, (run, (at, (room, (words, tt))))) r' (rules, (run, (at, (at_last room k', (at_last words l', tt)))))
     → (r ≡ r') × (l ≡ l') × (k ≡ k')

@@ -4,7 +4,7 @@ use Prim.Native.Nat.{ℕ}
 use mathlib.Core.Path.{◌≡◌, sym, ◌∙◌}
 use mathlib.Core.List.{List}
 use contract.Lifetimes.{Lfts}
-use denote.Ref.{MutBor, at_last}
+use denote.Ref.{Bor, MutBor, at_last}
 use Rattle.gateway_words.proofs.Unique.{leaves_one}
 use Rattle.gateway_writer.proofs.lattrugone_frame_size.Reads as frame_size
 use Rattle.gateway_writer.proofs.lattrugone_next_correlation_id.Reads as next_correlation_id
@@ -27,7 +27,7 @@ module _ (n r r' : ℕ) where
   pub next_correlation_id_one : next_correlation_id.Post tt (n, tt) r (n, tt) → next_correlation_id.Post tt (n, tt) r' (n, tt) → r ≡ r'
   next_correlation_id_one p q = p ∙ sym q
 
-module _ (κs : Lfts 3) (id : ℕ) (payload room words : MutBor (List ℕ)) (r r' : ℕ) (k k' l l' : List ℕ) where
+module _ (κs : Lfts 3) (id : ℕ) (payload : Bor (List ℕ)) (room words : MutBor (List ℕ)) (r r' : ℕ) (k k' l l' : List ℕ) where
   pub write_dss_full_one : (fill t flags : ℕ)
       → write_dss_full.Post κs (id, (fill, (t, (flags, (payload, (room, (words, tt))))))) r (id, (fill, (t, (flags, (payload, (at_last room k, (at_last words l, tt)))))))
       → write_dss_full.Post κs (id, (fill, (t, (flags, (payload, (room, (words, tt))))))) r' (id, (fill, (t, (flags, (payload, (at_last room k', (at_last words l', tt)))))))

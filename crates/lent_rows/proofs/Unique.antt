@@ -4,7 +4,7 @@ use Prim.Native.Nat.{ℕ}
 use mathlib.Core.Path.{◌≡◌, sym, ◌∙◌}
 use mathlib.Core.List.{List}
 use contract.Lifetimes.{Lfts}
-use denote.Ref.{MutBor, at_last}
+use denote.Ref.{Bor, MutBor, at_last}
 use Rattle.dss_frame.specs.declared.DssFrame.{DssFrame}
 use Rattle.dss_reader.specs.declared.DssReader.{DssReader}
 use Rattle.dss_salvage.specs.declared.SalvageEntry.{SalvageEntry}
@@ -17,7 +17,7 @@ use Rattle.lent_rows.proofs.entries.entries_row.Reads as entries_row
 use Rattle.lent_rows.proofs.objects.objects_row.Reads as objects_row
 use Rattle.lent_rows.proofs.objects.parameters_row.Reads as parameters_row
 
-module _ (κs : Lfts 2) (run room : MutBor (List ℕ)) (l l' : List ℕ) where
+module _ (κs : Lfts 2) (run : Bor (List ℕ)) (room : MutBor (List ℕ)) (l l' : List ℕ) where
   pub frames_row_one : (d : DssReader) (b : DssFrame) (r r' : FramesRow)
       → frames_row.Post κs (d, (run, (room, (b, tt)))) r (d, (run, (at_last room l, (b, tt))))
       → frames_row.Post κs (d, (run, (room, (b, tt)))) r' (d, (run, (at_last room l', (b, tt)))) → (r ≡ r') × (l ≡ l')

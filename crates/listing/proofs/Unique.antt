@@ -5,7 +5,7 @@ use mathlib.Core.Path.{◌≡◌, refl, sym, ◌∙◌}
 use mathlib.Core.List.{List}
 use lib.ListN.{length}
 use contract.Lifetimes.{Lfts}
-use denote.Ref.{MutBor, at_last}
+use denote.Ref.{Bor, MutBor, at_last}
 use Rattle.wire.specs.Bytes.{laid}
 use Rattle.answer.specs.Rooms.{laid_at_start, Lays}
 use Rattle.answer.specs.declared.Laid.{Laid}
@@ -19,7 +19,7 @@ use Rattle.listing.proofs.salvage_list.Reads as salvage_list
 lays_one : {text room : List ℕ} (r r' : Laid) (l l' : List ℕ) → Lays text room r l → Lays text room r' l' → (r ≡ r') × (l ≡ l')
 lays_one r r' l l' p q = (p.answers ∙ sym q.answers, p.room_is ∙ sym q.room_is)
 
-module _ (κs : Lfts 2) (run room : MutBor (List ℕ)) where
+module _ (κs : Lfts 2) (run room : Bor (List ℕ)) where
   -- the answer and the room
   abbrev answer_of : List ℕ → Laid
   answer_of t = laid_at_start 0 (length room.now) (length t)

@@ -6,7 +6,7 @@ use mathlib.Core.List.{List, [], ◌∷◌, ◌++◌}
 use lib.ListN.{length}
 use lib.Seq.{sets}
 use contract.Lifetimes.{Lfts}
-use denote.Ref.{MutBor, at_last}
+use denote.Ref.{Bor, MutBor, at_last}
 use Rattle.answer.specs.Rooms.{capped}
 use Rattle.text.specs.Texts.{decimal}
 use Rattle.text.specs.inner.Puts.{Puts}
@@ -35,7 +35,7 @@ module _ (room : MutBor (List ℕ)) (at : ℕ) where
     pub put_decimal_some : (n : ℕ) → put_decimal.Post κs (room, (at, (n, tt))) (capped (at + length (decimal n))) (at_last room (sets room.now at (decimal n)), (at, (n, tt)))
     put_decimal_some n = record { mark = refl; room_is = refl }
 
-  module _ (κs : Lfts 2) (words : MutBor (List ℕ)) where
+  module _ (κs : Lfts 2) (words : Bor (List ℕ)) where
     pub put_text_one : (r r' : ℕ) (l l' : List ℕ) → put_text.Post κs (room, (at, (words, tt))) r (at_last room l, (at, (words, tt)))
         → put_text.Post κs (room, (at, (words, tt))) r' (at_last room l', (at, (words, tt))) → (r ≡ r') × (l ≡ l')
     put_text_one r r' l l' p q = puts_one r r' l l' p q

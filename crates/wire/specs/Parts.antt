@@ -5,7 +5,7 @@ use Rattle.wire.specs.Bytes.{pick}
 
 -- where the part of a slice from an offset on starts in memory
 abbrev pub start_at : Bor (List ℕ) → ℕ → ℕ × ℕ
-start_at x a = (x.ptr.0, a + x.ptr.1)
+start_at x a = (x.ref_ptr.0, a + x.ref_ptr.1)
 
 -- all that stands from a place on: beyond the data the empty part at its end
 pub record RestAt (d : Bor (List ℕ)) (at : ℕ) (r : Bor (List ℕ)) : Type 0 where

@@ -1,5 +1,7 @@
 // Bytes and two-byte numbers of a run, most significant byte first. The laws on parts of lists, on `splice` and on numbers
 // of any width are in specs/.
+#![tactic(auto)]
+
 ghost use Rattle.std.specs.Prelude.{◌≡◌, [], ◌∷◌, ◌+◌, ◌≤◌, length, get_or};
 ghost use Rattle.wire.specs.Bytes.{be16, two, splice, laid};
 
@@ -48,7 +50,7 @@ pub(crate) fn copy_at(bytes: &[u8], room: &mut [u8], at: usize)
     requires { at + length bytes.now ≤ length room.old }
     ensures { room.new ≡ splice room.old at bytes.now }
 {
-    bytes::copy(bytes, &mut room[at..]);
+    room[at..at + bytes.len()].copy_from_slice(bytes);
 }
 
 // Lays bytes into a room from a place on, where it has room for them. Those up to a place that 16 divides go first: in a room

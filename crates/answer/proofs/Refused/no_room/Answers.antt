@@ -2,11 +2,7 @@
 use Prim.Native.Nat.{◌^◌}
 use native.Mathlib.Omega.{arith}
 use borrow.Author.Tests.{lt-ltb}
-use Rattle.answer.proofs.Refused.no_room.Statement.{statement}
-use Rattle.answer.proofs.Refused.no_room.Tie as tie
+use Rattle.answer.proofs.Refused.no_room.Goals as goal
 
-returns : tie.Need-returns
+pub returns : goal.returns
 returns c = simp (lt-ltb c.args.bytes (2 ^ 64) (omega arith), lt-ltb c.args.records (2 ^ 64) (omega arith))
-
-pub no_room_spec : {M : Type 1} → statement M
-no_room_spec = tie.close (tie.spec returns)

@@ -1,0 +1,51 @@
+-- `ddm_length::measure_at` meets its contract: it goes by what `length_at` says. A length below its header is an inline one,
+-- and so has two bytes.
+use Prim.Native.Nat.{ℕ, ◌<◌}
+use native.Mathlib.Omega.{arith}
+use mathlib.Core.Path.{sym, ◌∙◌, ap}
+use mathlib.Core.List.{List}
+use borrow.Author.Tests.{lt-ltb, le-ltb, lt-leb, le-leb}
+use Rattle.wire.proofs.WireLaws.{pick_yes, pick_no}
+use Rattle.ddm_length.specs.Lengths.{measured, fitting}
+use Rattle.ddm_length.proofs.TakenLengths.{LengthSays, says_inline, says_all, says_wide, marshaled_says}
+use Rattle.ddm_length.proofs.measure_at.Goals as goal
+
+small : {b : List ℕ} {t h : ℕ} → LengthSays b t h → t < h → t < 65536
+small (says_inline four et eh hi) l = omega arith
+small (says_all four raw et eh) l = absurd (omega arith)
+small (says_wide raw lo there et hi) l = absurd (omega arith)
+
+pub returns-then-total-header : goal.returns-then-total-header
+unfolding measured
+returns-then-total-header c =
+    let s = c.args in
+    c.refuse_at.ensures
+    ∙ rw c.u16_at-code_point.ensures
+    (sym (ap (fitting s.bytes.now s.place) (sym c.length_at.ensures ∙ c.total-1.given.1) ∙ pick_yes _ _ (lt-ltb _ _ c.if-total-header.true)))
+
+pub returns-then-bytes-total : goal.returns-then-bytes-total
+unfolding measured
+returns-then-bytes-total c =
+    let s = c.args in
+    c.refuse_at-then-bytes-total.ensures
+    ∙ sym (ap (fitting s.bytes.now s.place) (sym c.length_at.ensures ∙ c.total-1.given.1)
+    ∙ pick_no _ _ (le-ltb _ _ c.if-total-header.false) ∙ pick_no _ _ (lt-leb _ _ c.if-bytes-total.true))
+
+pub returns-in-Takes : goal.returns-in-Takes
+unfolding measured
+returns-in-Takes c =
+    let s = c.args in
+    sym (ap (fitting s.bytes.now s.place) (sym c.length_at.ensures ∙ c.total-1.given.1)
+    ∙ pick_no _ _ (le-ltb _ _ c.if-total-header.false) ∙ pick_yes _ _ (le-leb _ _ c.if-bytes-total.false))
+
+pub returns-in-Refused : goal.returns-in-Refused
+unfolding measured
+returns-in-Refused c =
+    let s = c.args in
+    sym (ap (fitting s.bytes.now s.place) (sym c.length_at.ensures ∙ c.r-1.given.1))
+
+-- TODO
+-- cast-t10 : tie.Need-overflow-cast-t10
+-- cast-t10 c =
+--     let s = c.args in
+--     record { fits = small (marshaled_says s.bytes.now _ _ s.place (sym c.length_at.ensures ∙ c.total-1.given.1)) c.if-total-header.true }
