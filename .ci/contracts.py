@@ -62,7 +62,7 @@ def public_functions(crate):
                 head.append(part.strip())
                 if part.endswith(" {"):
                     break
-            clauses = [p for p in head if re.match(r"(requires|ensures) ", p)]
+            clauses = [p for p in head if re.match(r"(requires|ensures)\*? ", p)]
             signature = " ".join(p for p in head if p not in clauses)
             yield Function(crate, file, i + 1, module + owner + [match[1]], signature, clauses)
 
@@ -71,8 +71,8 @@ def public_functions(crate):
 
 
 def module_file(module):
-    """The file of a module of this repository, or None: Rattle·wire.specs.Bytes is crates/wire/specs/Bytes.antt."""
-    match = re.match(r"Rattle·(\w+)(?:·(?:specs|proofs))?\.(.*)", module)
+    """The file of a module of this repository, or None: Rattle.wire.specs.Bytes is crates/wire/specs/Bytes.antt."""
+    match = re.match(r"Rattle\.(\w+)\.(.*)", module)
     if not match:
         return None
     file = CRATES / match[1] / (match[2].replace(".", "/") + ".antt")
@@ -164,6 +164,8 @@ class Source:
                 yield from Source.of(file).own(there)
             else:
                 yield from self.own(first)
+            for field in rest.split("."):
+                yield from self.own(field)
 
     def own(self, name):
         if name in self.defined:
