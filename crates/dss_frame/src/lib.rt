@@ -2,7 +2,7 @@
 use dss_head::DssHeader;
 
 // Whose rules hold while a frame is read: the reader's, which are the Rust's, or salvage's.
-#[derive(Drop)]
+#[derive(Clone, Copy)]
 pub enum Rules {
     Reader,
     Salvage,
@@ -21,7 +21,7 @@ pub struct DssFrame {
 }
 
 // Where a record's frame or entry starts in the run, where its payload lies in the room, and how many records are still to come.
-#[derive(Drop)]
+#[derive(Clone, Copy)]
 pub struct RowPlace {
     pub at: usize,
     pub payload_at: usize,
