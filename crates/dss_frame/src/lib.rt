@@ -10,7 +10,7 @@ pub enum Rules {
 
 // A frame's record: its head, where its payload lies in the lent room, of how many segments it was made, and where it stood in
 // the run: its first byte and the byte after its last, absorbed segments included.
-#[derive(Drop)]
+#[derive(Clone, Copy)]
 pub struct DssFrame {
     pub header: DssHeader,
     pub payload_at: usize,

@@ -51,21 +51,21 @@ pub struct DssHeader {
 }
 
 // What reading a type finds.
-#[derive(Drop)]
+#[derive(Clone, Copy)]
 pub enum TypeFound {
     Is(DssType),
     Refused(Refused),
 }
 
 // What parsing a head finds.
-#[derive(Drop)]
+#[derive(Clone, Copy)]
 pub enum HeadFound {
     Head(DssHeader),
     Refused(Refused),
 }
 
 // What a continuation length says: document 01, "Reading".
-#[derive(Drop)]
+#[derive(Clone, Copy)]
 pub enum Chunk {
     // 0 and 1: never whole.
     Dead,
