@@ -5,7 +5,7 @@ ghost use Rattle.std.specs.Prelude.{◌≡◌, get_or};
 ghost use Rattle.answer.specs.Numbers.{number_of, not_whole, values_of};
 ghost use Rattle.answer.specs.Rooms.{no_room, out_of_bounds, room_for};
 
-#[derive(Drop)]
+#[derive(Clone, Copy)]
 pub enum Refusal {
     // 1: the frame isn't whole yet.
     Incomplete,
@@ -39,21 +39,21 @@ pub enum Refusal {
 }
 
 // A refusal, with the place that document 01 gives it.
-#[derive(Drop)]
+#[derive(Clone, Copy)]
 pub struct Refused {
     pub why: Refusal,
     pub place: usize,
 }
 
 // Whether a room has the bytes that a result needs.
-#[derive(Drop)]
+#[derive(Clone, Copy)]
 pub enum RoomFor {
     Enough,
     Refused(Refused),
 }
 
 // What laying bytes down at a room's first byte comes to: how many they are.
-#[derive(Drop)]
+#[derive(Clone, Copy)]
 pub enum Laid {
     Bytes(usize),
     Refused(Refused),

@@ -1,4 +1,6 @@
 // Building DDM objects: document 01, "DDM", "Building".
+#![tactic(auto)]
+
 ghost use Rattle.std.specs.Prelude.{◌≡◌, ◌+◌, ◌<◌, length};
 ghost use Rattle.wire.specs.Bytes.{two, last, laid};
 ghost use Rattle.answer.specs.Rooms.{capped, Lays};

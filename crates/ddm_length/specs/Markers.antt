@@ -1,5 +1,5 @@
 -- The removal of continuation markers: document 01, "DDM", "Markers".
-use Rattle.std.specs.Prelude.{ℕ, zero, suc, ◌+◌, ◌≤◌, ◌<◌, Bool, List, [], ◌∷◌, ◌++◌, ltb, length, take, drop, ◌≡◌}
+use Rattle.std.specs.Prelude.{ℕ, zero, suc, ◌≤◌, ◌<◌, Bool, List, [], ◌∷◌, ◌++◌, ltb, length, take, drop, ◌≡◌}
 use Rattle.wire.specs.Bytes.{pick, and, be16, marker, two}
 
 abbrev pub marker_first : List ℕ → Bool

@@ -35,7 +35,7 @@ every_type f e t =
     let b = and_split (f Reply) _ a.1 in
     let c = and_split (f Object) _ b.1 in
     let d = and_split (f Communication) _ c.1 in
-    elim t [
+    elim t as (λ (u : DssType). f u ≡ true) [
       | Request ↦ a.0
       | Reply ↦ b.0
       | Object ↦ c.0

@@ -1,5 +1,5 @@
 -- Document 01, module 1, "Lengths and flags": lengths, the format byte, heads, over a list of bytes.
-use Rattle.std.specs.Prelude.{ℕ, ◌+◌, ◌-◌, ◌/◌, ◌%◌, Bool, false, List, [], ◌∷◌, ◌++◌, ltb, eqb, length, get_or}
+use Rattle.std.specs.Prelude.{ℕ, ◌+◌, ◌-◌, ◌/◌, ◌%◌, Bool, false, List, ◌∷◌, ◌++◌, ltb, eqb, length, get_or}
 use Rattle.wire.specs.Bytes.{pick, or, be16, two}
 use Rattle.answer.specs.declared.Refusal.TheVariants.{InvalidMagic, InvalidDssType, BufferTooShort}
 use Rattle.dss_head.specs.declared.DssType.{DssType}

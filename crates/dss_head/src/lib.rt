@@ -1,4 +1,6 @@
 // The head of a DSS segment: lengths, type, flags. Document 01, module 1; the top of the Rust's dss.rs.
+#![tactic(auto)]
+
 ghost use Rattle.std.specs.Prelude.{◌≡◌};
 ghost use Rattle.answer.specs.Rooms.{Lays};
 ghost use Rattle.dss_head.specs.Heads.{length_of, is_full, continuation_length, chunk_of, type_at, type_byte, flags_of, flags_byte, no_flags, head_at, head_bytes};
@@ -23,7 +25,7 @@ pub const DSS_CONTINUATION_PAYLOAD_LEN: usize = DSS_FULL_SEGMENT_LEN - DSS_CONTI
 // The numbers of the types go from 1 to this one.
 pub const DSS_LAST_TYPE: u8 = 5;
 
-#[derive(Drop)]
+#[derive(Clone, Copy)]
 pub enum DssType {
     Request,
     Reply,
@@ -33,14 +35,14 @@ pub enum DssType {
     NoReply,
 }
 
-#[derive(Drop)]
+#[derive(Clone, Copy)]
 pub struct DssFlags {
     pub chained: bool,
     pub continue_on_error: bool,
     pub same_correlation: bool,
 }
 
-#[derive(Drop)]
+#[derive(Clone, Copy)]
 pub struct DssHeader {
     pub length: u16,
     pub dss_type: DssType,
@@ -49,21 +51,21 @@ pub struct DssHeader {
 }
 
 // What reading a type finds.
-#[derive(Drop)]
+#[derive(Clone, Copy)]
 pub enum TypeFound {
     Is(DssType),
     Refused(Refused),
 }
 
 // What parsing a head finds.
-#[derive(Drop)]
+#[derive(Clone, Copy)]
 pub enum HeadFound {
     Head(DssHeader),
     Refused(Refused),
 }
 
 // What a continuation length says: document 01, "Reading".
-#[derive(Drop)]
+#[derive(Clone, Copy)]
 pub enum Chunk {
     // 0 and 1: never whole.
     Dead,

@@ -1,5 +1,5 @@
 -- Where the length stands that a frame is never whole for: at its place, inside the run (W-203).
-use Prim.Native.Nat.{ℕ, ◌+◌, ◌-◌, ◌≤◌}
+use Prim.Native.Nat.{ℕ, ◌+◌, ◌≤◌}
 use native.Mathlib.Omega.{arith}
 use mathlib.Core.List.{List, ◌∷◌}
 use lib.ListN.{length}

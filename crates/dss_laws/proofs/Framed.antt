@@ -1,13 +1,13 @@
 -- Bytes with a written frame's length and length fields, and the walk over them wherever they stand.
 use Prim.Native.Nat.{ℕ, zero, suc, ◌+◌, ◌*◌, ◌-◌, ◌≤◌, ◌<◌}
 use native.Mathlib.Omega.{arith}
-use mathlib.Core.Path.{◌≡◌, refl, ap, ◌∙◌}
+use mathlib.Core.Path.{◌≡◌, ap, ◌∙◌}
 use mathlib.Core.List.{List, [], ◌∷◌, ◌++◌}
 use lib.ListN.{length, drop}
 use lib.Seq.{drop-append_seam}
 use borrow.Author.Tests.{le-ltb, le-leb, eq-eqb, ne_eqb}
 use Rattle.wire.specs.Bytes.{be16}
-use Rattle.dss_head.specs.declared.Chunk.TheVariants.{Last, Full}
+use Rattle.dss_head.specs.declared.Chunk.TheVariants.{Last}
 use Rattle.dss_frame.specs.Rules.{chunk_under}
 use Rattle.dss_frame.specs.declared.Rules.{Rules}
 use Rattle.dss_frame.specs.declared.Rules.TheVariants.{Reader, Salvage}

@@ -11,7 +11,7 @@ use Rattle.answer.specs.Numbers.{not_whole}
 use Rattle.answer.specs.declared.Refusal.TheVariants.{Incomplete}
 use Rattle.answer.specs.declared.Refused.{Refused}
 use Rattle.dss_frame.specs.declared.Rules.TheVariants.{Reader}
-use Rattle.dss_frame.specs.Segments.{short, end_of, frame_walk}
+use Rattle.dss_frame.specs.Segments.{end_of, frame_walk}
 use Rattle.dss_frame.specs.Reading.{Frame, Read, frame, refused, read_walk, read_at}
 use Rattle.dss_frame.specs.Frames.{AllRead, frames, refused_all, before, and_on, frames_fuel, all_frames}
 use Rattle.dss_laws.proofs.Bounds.{OfFrame, is_frame, is_refused, Past, read_past}

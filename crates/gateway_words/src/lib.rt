@@ -1,5 +1,7 @@
 // How an answer goes to C and Rust: in eight words, document 01's number, the place, then a refusal's values or the result's
 // numbers. The crates that export the port's functions call these.
+#![tactic(auto)]
+
 ghost use Rattle.std.specs.Prelude.{◌≡◌, [], ◌∷◌};
 ghost use Rattle.wire.specs.Bytes.{laid};
 ghost use Rattle.gateway_words.specs.AnswerWords.{refusal_words, done_words, laid_words, Answered};

@@ -58,7 +58,7 @@ fn fill_literal(list: &[u8], at: usize, len: usize, room: &mut [u8]) -> Filled
 {
     let rest = &list[at..];
     let n = at_most(len as u64, rest.len());
-    bytes::copy(&rest[0..n], room);
+    room[0..n].copy_from_slice(&rest[0..n]);
     Filled {
         len: n,
         next: at + n,

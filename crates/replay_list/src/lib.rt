@@ -1,5 +1,7 @@
 // The list of recorded answers, read: its numbers, what is asked, the bytes of an input, and the sums that stand for what lent buffers hold.
 // Beyond the list's end every number is 0, and a place read on from there is the list's end.
+#![tactic(auto)]
+
 pub mod number; // number.rt: numbers, and parts of them
 pub mod asked; // asked.rt: a call's number, and what it is given
 pub mod input; // input.rt: an input's bytes, of pieces

@@ -1,15 +1,15 @@
 // Sums that tell what lent buffers hold apart: 64-bit FNV-1a, of a row of words with a word in the place of a byte; 0 of nothing.
 use super::number::wide;
-use std::num::wrapping_add_u64;
 
 const START: u64 = 0xCBF29CE484222325;
 
 // The FNV prime, 2^40 + 2^8 + 0xB3, times x.
 fn times_prime(x: u64) -> u64 {
-    let two = wrapping_add_u64(x, x << 1);
-    let six = wrapping_add_u64(x << 4, x << 5);
-    let nine = wrapping_add_u64(x << 7, x << 8);
-    wrapping_add_u64(wrapping_add_u64(two, six), wrapping_add_u64(nine, x << 40))
+    let two = x.wrapping_add(x << 1);
+    let six = (x << 4).wrapping_add(x << 5);
+    let nine = (x << 7).wrapping_add(x << 8);
+    two.wrapping_add(six)
+        .wrapping_add(nine.wrapping_add(x << 40))
 }
 
 pub fn of_bytes(s: &[u8]) -> u64 {

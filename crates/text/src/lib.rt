@@ -1,5 +1,7 @@
 // Text put into a lent room, one piece behind the other: bytes, words, decimal numbers. What doesn't fit isn't put, and the mark
 // goes on, so that the same functions say how long a text is.
+#![tactic(auto)]
+
 ghost use Rattle.std.specs.Prelude.{[], ◌∷◌, ◌++◌, ◌≡◌, ◌+◌, ◌%◌};
 ghost use Rattle.answer.specs.Rooms.{capped};
 ghost use Rattle.text.specs.Texts.{decimal};

@@ -1,9 +1,9 @@
 -- A row that is filled from its start on, element by element, whatever the elements are: what stands in it after each, and at the end.
-use Prim.Native.Nat.{ℕ, suc, ◌+◌, ◌<◌, ◌≤◌}
+use Prim.Native.Nat.{ℕ, zero, suc, ◌+◌, ◌<◌, ◌≤◌}
 use native.Mathlib.Omega.{arith}
 use mathlib.Core.Path.{◌≡◌, refl, sym, ap, ◌∙◌}
 use mathlib.Core.List.{List, [], ◌∷◌, ◌++◌, append_assoc, append-nil}
-use lib.ListN.{length, set, drop, length-append}
+use lib.ListN.{length, set, take, drop, length-append, take-append-drop}
 use lib.Seq.{drop_at}
 use Rattle.wire.specs.Bytes.{splice}
 
@@ -86,3 +86,31 @@ module _ {A P : Type 0} {from : ℕ → P → List A} {Good : P → Type 0} {sta
 
       pub filled_stored : set now (length σ.done) r ≡ (σ.done ++ (r ∷ [])) ++ l
       filled_stored = ap (λ (k : List A). set (σ.done ++ k) (length σ.done) r) e ∙ set_at σ.done z r l
+
+-- ---- the same, of the row alone: what is still to be laid down stands from the next place on
+
+splice_front_none : {A : Type 0} (r : List A) (i : ℕ) → splice r i [] ≡ r
+unfolding splice
+splice_front_none r i = let z : i + 0 ≡ i = omega arith in ap (λ (n : ℕ). take i r ++ drop n r) z ∙ take-append-drop i r
+
+-- no more are laid down
+pub splice_no_more : {A : Type 0} (r : List A) (i : ℕ) (b : List A) → b ≡ [] → splice r i b ≡ r
+splice_no_more {A} r i b e = ap (λ (l : List A). splice r i l) e ∙ splice_front_none r i
+
+-- one is stored, and the others come behind it
+pub splice_store : {A : Type 0} (r : List A) (i : ℕ) (x : A) (l : List A) → i < length r → splice r i (x ∷ l) ≡ splice (set r i x) (i + 1) l
+unfolding splice
+splice_store [] i x l h = absurd (omega arith)
+splice_store {A} (y ∷ r) zero x l h =
+    let a : 0 + suc (length l) ≡ suc (length l) = omega arith in
+    let b : 1 + length l ≡ suc (length l) = omega arith in
+    ap (λ (n : ℕ). x ∷ (l ++ drop {A = A} n (y ∷ r))) a ∙ sym (ap (λ (n : ℕ). x ∷ (l ++ drop {A = A} n (x ∷ r))) b)
+splice_store {A} (y ∷ r) (suc i) x l h =
+    let w = splice_store r i x l (omega arith) in
+    let a : suc i + suc (length l) ≡ suc (i + suc (length l)) = omega arith in
+    let b : suc i + 1 ≡ suc (i + 1) = omega arith in
+    let c : suc (i + 1) + length l ≡ suc (i + 1 + length l) = omega arith in
+    ap (λ (n : ℕ). y ∷ (take i r ++ x ∷ (l ++ drop {A = A} n (y ∷ r)))) a
+    ∙ ap (λ (k : List A). y ∷ k) w
+    ∙ sym (ap (λ (n : ℕ). y ∷ (take (i + 1) (set r i x) ++ (l ++ drop {A = A} n (y ∷ set r i x)))) c)
+    ∙ sym (ap (λ (n : ℕ). splice {A = A} (y ∷ set r i x) n l) b)

@@ -36,17 +36,17 @@ returns-then-end-n c =
     let a = c in
     let s = a.args in
     c.refuse_at-then-end-n.ensures
-    ∙ sym (too_large s.bytes.now s.place s.header a.if-header-lt4.false a.if-bytes-end.false (omega (arith, number_is _ _ (sym a.number_of_lem.ensures ∙ c.n-1.given.1))))
+    ∙ sym (too_large s.bytes.now s.place s.header a.if-header-lt4.false a.if-bytes-end.false (omega (arith, number_is _ _ (sym c.in-Is.ensures))))
 
 pub returns-in-Is : goal.returns-in-Is
 returns-in-Is c =
     let a = c in
     let s = a.args in
-    sym (within s.bytes.now s.place s.header a.if-header-lt4.false a.if-bytes-end.false _ (number_is _ _ (sym a.number_of_lem.ensures ∙ c.n-1.given.1)) (omega arith))
+    sym (within s.bytes.now s.place s.header a.if-header-lt4.false a.if-bytes-end.false _ (number_is _ _ (sym c.in-Is.ensures)) (omega arith))
 
 pub returns-in-TooLarge : goal.returns-in-TooLarge
 returns-in-TooLarge c =
     let a = c in
     let s = a.args in
     c.refuse_at-in-TooLarge.ensures
-    ∙ sym (too_large s.bytes.now s.place s.header a.if-header-lt4.false a.if-bytes-end.false (omega (arith, number_large _ (sym a.number_of_lem.ensures ∙ c.enum_told-1.given.1))))
+    ∙ sym (too_large s.bytes.now s.place s.header a.if-header-lt4.false a.if-bytes-end.false (omega (arith, number_large _ (sym c.in-TooLarge.ensures))))

@@ -1,15 +1,11 @@
 -- `ddm_length::lay_kept` meets its contract. The invariant: so many bytes are kept so far, the data is read up to a place, and
 -- the work area holds what is kept.
-use Prim.Native.Nat.{◌-◌, ◌≤◌}
-use native.Mathlib.Omega.{arith}
-use mathlib.Core.Path.{◌≡◌, sym, ◌∙◌, ap}
+use Prim.Native.Nat.{◌-◌}
+use mathlib.Core.Path.{◌≡◌}
 use lib.ListN.{length, take}
-use lib.Seq.{length-take-le}
 use Rattle.wire.specs.Bytes.{splice}
-use Rattle.wire.proofs.Splicing.{splice_length}
 use Rattle.ddm_length.specs.Markers.{unmarked}
 use Rattle.ddm_length.specs.inner.Keeping.{Keeping}
-use Rattle.ddm_length.proofs.MarkerPieces.{keeping_start, keeping_step, keeping_end, laid_more, first_length, first_holds, all_laid}
 use Rattle.ddm_length.proofs.lay_kept.Given as goal
 
 abbrev pub invariant-loop-at : goal.invariant-loop-at

@@ -21,31 +21,29 @@ returns-then-total-header c =
     let s = c.args in
     c.refuse_at.ensures
     ∙ rw c.u16_at-code_point.ensures
-    (sym (ap (fitting s.bytes.now s.place) (sym c.length_at.ensures ∙ c.total-1.given.1) ∙ pick_yes _ _ (lt-ltb _ _ c.if-total-header.true)))
+    (sym (ap (fitting s.bytes.now s.place) (sym c.in-Takes.ensures) ∙ pick_yes _ _ (lt-ltb _ _ c.if-total-header.true)))
 
 pub returns-then-bytes-total : goal.returns-then-bytes-total
 unfolding measured
 returns-then-bytes-total c =
     let s = c.args in
     c.refuse_at-then-bytes-total.ensures
-    ∙ sym (ap (fitting s.bytes.now s.place) (sym c.length_at.ensures ∙ c.total-1.given.1)
+    ∙ sym (ap (fitting s.bytes.now s.place) (sym c.in-Takes.ensures)
     ∙ pick_no _ _ (le-ltb _ _ c.if-total-header.false) ∙ pick_no _ _ (lt-leb _ _ c.if-bytes-total.true))
 
 pub returns-in-Takes : goal.returns-in-Takes
 unfolding measured
 returns-in-Takes c =
     let s = c.args in
-    sym (ap (fitting s.bytes.now s.place) (sym c.length_at.ensures ∙ c.total-1.given.1)
+    sym (ap (fitting s.bytes.now s.place) (sym c.in-Takes.ensures)
     ∙ pick_no _ _ (le-ltb _ _ c.if-total-header.false) ∙ pick_yes _ _ (le-leb _ _ c.if-bytes-total.false))
 
 pub returns-in-Refused : goal.returns-in-Refused
 unfolding measured
 returns-in-Refused c =
     let s = c.args in
-    sym (ap (fitting s.bytes.now s.place) (sym c.length_at.ensures ∙ c.r-1.given.1))
+    sym (ap (fitting s.bytes.now s.place) (sym c.in-Refused.ensures))
 
--- TODO
--- cast-t10 : tie.Need-overflow-cast-t10
--- cast-t10 c =
---     let s = c.args in
---     record { fits = small (marshaled_says s.bytes.now _ _ s.place (sym c.length_at.ensures ∙ c.total-1.given.1)) c.if-total-header.true }
+pub overflow_cast-total : goal.overflow_cast-total
+overflow_cast-total c =
+    let s = c.args in omega (arith, small (marshaled_says s.bytes.now _ _ s.place (sym c.in-Takes.ensures)) c.if-total-header.true)

@@ -1,10 +1,10 @@
 -- `ddm_length::number_of` meets its contract. The invariant: n is what the bytes so far spell. Where the test refuses, the next
 -- byte would pass 2^64 - 1, and a number only grows with its bytes.
-use Prim.Native.Nat.{ℕ, ◌+◌, ◌*◌, ◌-◌, ◌^◌, ◌≤◌, ◌<◌}
+use Prim.Native.Nat.{ℕ, ◌+◌, ◌*◌, ◌^◌}
 use native.Mathlib.Numerals.{add-one}
 use native.Mathlib.Omega.{arith}
 use mathlib.Core.Path.{◌≡◌, refl, sym, ◌∙◌, ap}
-use lib.ListN.{length, take, get_or}
+use lib.ListN.{take, get_or}
 use lib.Seq.{take_all}
 use borrow.Author.Tests.{lt-ltb, le-ltb}
 use Rattle.wire.specs.Bytes.{spelled}
@@ -31,10 +31,10 @@ pub bounds-bytes-i : goal.bounds-bytes-i
 bounds-bytes-i c = omega arith
 
 pub overflow_cast-n : goal.overflow_cast-n
-overflow_cast-n c = omega (arith, c.shared_slice_known-1.given c.loop-i.i)
+overflow_cast-n c = omega arith
 
 pub overflow_add-n : goal.overflow_add-n
-overflow_add-n c = omega (arith, c.shared_slice_known-1.given c.loop-i.i)
+overflow_add-n c = omega arith
 
 pub overflow_add-i : goal.overflow_add-i
 overflow_add-i c = omega arith
@@ -48,7 +48,7 @@ loop-i-preserved c =
     let bs = c.args.bytes.now in (
       omega arith,
       ap (λ (x : ℕ). x * 256 + get_or bs l.i 0) l.invariant.1 ∙ sym (ap (λ (j : ℕ). spelled 0 (take j bs)) (add-one l.i) ∙ spelled_step bs l.i (omega arith)),
-      omega (arith, c.shared_slice_known-1.given l.i),
+      omega arith,
     )
 
 pub returns : goal.returns

@@ -1,16 +1,9 @@
 -- `ddm_length::number_of` meets its contract. The invariant: n is what the bytes so far spell. Where the test refuses, the next
 -- byte would pass 2^64 - 1, and a number only grows with its bytes.
-use Prim.Native.Nat.{ℕ, ◌+◌, ◌*◌, ◌-◌, ◌^◌, ◌≤◌, ◌<◌}
-use native.Mathlib.Numerals.{add-one}
-use native.Mathlib.Omega.{arith}
-use mathlib.Core.Path.{◌≡◌, refl, sym, ◌∙◌, ap}
-use lib.ListN.{length, take, get_or}
-use lib.Seq.{take_all}
-use borrow.Author.Tests.{lt-ltb, le-ltb}
+use Prim.Native.Nat.{◌-◌, ◌^◌, ◌≤◌, ◌<◌}
+use mathlib.Core.Path.{◌≡◌}
+use lib.ListN.{length, take}
 use Rattle.wire.specs.Bytes.{spelled}
-use Rattle.wire.proofs.WireLaws.{pick_yes, pick_no}
-use Rattle.ddm_length.specs.inner.Numbered.{spelled_number}
-use Rattle.ddm_length.proofs.NumberSums.{spelled_step, spelled_front}
 use Rattle.ddm_length.proofs.number_of.Given as goal
 
 abbrev pub invariant-loop-i : goal.invariant-loop-i

@@ -1,5 +1,4 @@
 -- `ddm_length::piece_at` meets its contract: the laws of a whole chunk and of the rest.
-use native.Mathlib.Omega.{arith}
 use Rattle.ddm_length.proofs.MarkerPieces.{chunk_kept, rest_kept}
 use Rattle.ddm_length.proofs.piece_at.Goals as goal
 
@@ -10,11 +9,3 @@ returns-then-data-from-le-EXTENDED_DDM_CONTINUATION_CHUNK_LEN c =
 pub returns : goal.returns
 returns c =
     let s = c in chunk_kept s.args.«data».now s.args.at _ s.requires c.past_marker-from.ensures c.if-data-from-le-EXTENDED_DDM_CONTINUATION_CHUNK_LEN.false
-
--- TODO
--- sub-if1 : tie.Need-overflow-sub-if1
--- sub-if1 c = omega (arith, c.past_marker-from.ensures)
-
--- TODO
--- add-t5 : tie.Need-overflow-add-t5
--- add-t5 c = omega (arith, c.past_marker-from.ensures)

@@ -20,7 +20,7 @@ returns-then-work-need c =
     }
 
 pub lay_kept-requires : goal.lay_kept-requires
-lay_kept-requires c = (sym c.has_markers.ensures ∙ c.if-has_markers.true, omega arith)
+lay_kept-requires c = record { data_value = sym c.has_markers.ensures ∙ c.if-has_markers.true; data_in_bounds = omega arith }
 
 pub returns-then-has_markers : goal.returns-then-has_markers
 returns-then-has_markers c =

@@ -1,11 +1,9 @@
 -- `ddm_length::unmarked_len` meets its contract. The invariant: so many bytes are kept so far, and the data is read up to a place.
-use Prim.Native.Nat.{◌-◌}
 use native.Mathlib.Omega.{arith}
 use mathlib.Core.Path.{sym, ◌∙◌, ap}
 use lib.ListN.{length}
 use Rattle.wire.proofs.WireLaws.{pick_no}
 use Rattle.ddm_length.specs.Markers.{unmarked}
-use Rattle.ddm_length.specs.inner.Keeping.{Keeping}
 use Rattle.ddm_length.proofs.MarkerPieces.{keeping_start, keeping_step, keeping_end}
 use Rattle.ddm_length.proofs.unmarked_len.Goals as goal
 

@@ -1,5 +1,5 @@
 -- What the walk over data with markers has kept of them, as its loop stands.
-use Rattle.std.specs.Prelude.{ℕ, ◌+◌, ◌≤◌, ◌<◌, ◌≡◌, List, ◌++◌, length, drop}
+use Rattle.std.specs.Prelude.{ℕ, ◌≤◌, ◌<◌, ◌≡◌, List, ◌++◌, length, drop}
 use Rattle.wire.specs.Bytes.{part}
 use Rattle.ddm_length.specs.Markers.{past_marker, kept_fuel, unmarked}
 use Rattle.ddm_length.specs.declared.Piece.{Piece}
