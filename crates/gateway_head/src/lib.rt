@@ -2,4 +2,6 @@
 // lent to one call. A function that can refuse returns document 01's number, 0 for done, and lays eight words down at the start
 // of `words`, where it has eight: the number, the place, then a refusal's values or the result. The functions of the
 // writer and the reader are in gateway_writer and gateway_reader: a static library has those of one crate.
+#![tactic(auto)]
+
 pub mod head; // head.rt: module 1, lengths, types, flags, heads

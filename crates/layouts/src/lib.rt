@@ -1,1 +1,2 @@
 // DRDA volume 3's layouts: predicates alone (specs/).
+#![tactic(auto)]
