@@ -6,7 +6,7 @@ use mathlib.Core.List.{List, [], ◌∷◌, ◌++◌}
 use lib.ListN.{length, drop, replicate}
 use contract.Lifetimes.{Lfts}
 use base.Fml.{GName}
-use denote.Ref.{MutBor, at_last}
+use denote.Ref.{Bor, MutBor, at_last}
 use Rattle.wire.specs.Bytes.{splice, laid}
 use Rattle.answer.specs.Rooms.{no_room}
 use Rattle.answer.specs.declared.Refused.{Refused}
@@ -25,7 +25,7 @@ use Rattle.ddm_object.proofs.object_at.Reads as object_at_call
 use Rattle.ddm_object.proofs.object_data.Reads as object_data
 
 -- `after` is what `object_at` left in the work area, and `lent` lends just that
-module _ (κs : Lfts 2) (κt : Lfts 1) (run work lent r : MutBor (List ℕ)) (at : ℕ) (found : ObjectFound) (after : List ℕ)
+module _ (κs : Lfts 2) (κt : Lfts 1) (run : Bor (List ℕ)) (work : MutBor (List ℕ)) (lent r : Bor (List ℕ)) (at : ℕ) (found : ObjectFound) (after : List ℕ)
     (p : object_at_call.Post κs (run, (at, (work, tt))) found (run, (at, (at_last work after, tt)))) (same : lent.now ≡ after)
     (q : object_data.Post κt (run, (at, (lent, tt))) r (run, (at, (lent, tt)))) where
   -- what the two come to
@@ -47,8 +47,11 @@ module _ (κs : Lfts 2) (κt : Lfts 1) (run work lent r : MutBor (List ℕ)) (at
 -- ---- examples, at any places in memory
 
 module _ (κs : Lfts 2) (κt : Lfts 1) (a b : ℕ) (γ : GName) where
-  abbrev slice : ℕ → ℕ → List ℕ → MutBor (List ℕ)
-  slice base from l = record { ref_ptr = (base, from); ghost_name = γ; now = l }
+  abbrev slice : ℕ → ℕ → List ℕ → Bor (List ℕ)
+  slice base from l = record { ref_ptr = (base, from); now = l }
+
+  abbrev room : ℕ → ℕ → List ℕ → MutBor (List ℕ)
+  room base from l = record { ref_ptr = (base, from); ghost_name = γ; now = l }
 
   -- five bytes, of which the last is the data; they lie in the run, and no work area is needed
   abbrev five : List ℕ
@@ -57,7 +60,7 @@ module _ (κs : Lfts 2) (κt : Lfts 1) (a b : ℕ) (γ : GName) where
   pub inline_example : (o : Object) × (parsed five 0 ≡ object o) × (0xC1 ∷ [] ≡ o.content)
   unfolding object_at parsed measured marshaled unmarked laid splice
   inline_example =
-      given_data κs κt (slice a 0 five) (slice b 0 []) (slice b 0 []) (slice a 4 (0xC1 ∷ [])) 0 _ []
+      given_data κs κt (slice a 0 five) (room b 0 []) (slice b 0 []) (slice a 4 (0xC1 ∷ [])) 0 _ []
       (record { answers = refl; work_is = refl }) refl (record { bytes_are = refl; starts = refl }) _ refl
 
   -- 32,764 bytes of raw length 0x8004, with a marker at offset 32,757 of its data: without it they go through the work area
@@ -70,19 +73,19 @@ module _ (κs : Lfts 2) (κt : Lfts 1) (a b : ℕ) (γ : GName) where
   pub work_example : (o : Object) × (parsed long 0 ≡ object o) × (zeros ++ (0xC1 ∷ []) ≡ o.content)
   unfolding object_at parsed measured marshaled unmarked kept_fuel laid splice
   work_example =
-      given_data κs κt (slice a 0 long) (slice b 0 (replicate 32758 9)) (slice b 0 (zeros ++ (0xC1 ∷ []))) (slice b 0 (zeros ++ (0xC1 ∷ []))) 0 _ (zeros ++ (0xC1 ∷ []))
+      given_data κs κt (slice a 0 long) (room b 0 (replicate 32758 9)) (slice b 0 (zeros ++ (0xC1 ∷ []))) (slice b 0 (zeros ++ (0xC1 ∷ []))) 0 _ (zeros ++ (0xC1 ∷ []))
       (record { answers = refl; work_is = refl }) refl (record { bytes_are = refl; starts = refl }) _ refl
 
   -- the same with a work area that is one byte too short: 9, nothing is laid down, and the part is empty
-  abbrev few : MutBor (List ℕ)
+  abbrev few : Bor (List ℕ)
   few = slice b 0 (replicate 32757 9)
 
   pub short_some : object_data.Post κt (slice a 0 long, (0, (few, tt))) (slice a 0 []) (slice a 0 long, (0, (few, tt)))
   unfolding object_at parsed measured marshaled unmarked kept_fuel
   short_some = record { bytes_are = refl; starts = refl }
 
-  pub short_example : (r : MutBor (List ℕ)) → object_data.Post κt (slice a 0 long, (0, (few, tt))) r (slice a 0 long, (0, (few, tt))) → r.now ≡ []
+  pub short_example : (r : Bor (List ℕ)) → object_data.Post κt (slice a 0 long, (0, (few, tt))) r (slice a 0 long, (0, (few, tt))) → r.now ≡ []
   unfolding object_at parsed measured marshaled unmarked kept_fuel laid splice
   short_example r q =
-      refused_none κs κt (slice a 0 long) few few r 0 (NotGiven (no_room 0 32758 0)) (replicate 32757 9)
+      refused_none κs κt (slice a 0 long) (room b 0 (replicate 32757 9)) few r 0 (NotGiven (no_room 0 32758 0)) (replicate 32757 9)
       (record { answers = refl; work_is = refl }) refl q _ refl

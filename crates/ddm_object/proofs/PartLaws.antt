@@ -1,6 +1,6 @@
 -- Which part an object's data are: "a part of its own bytes, or of the work area once markers came out; of a refused object it
 -- is the empty part at the start of its bytes (with 10, at the run's end)". The work area is lent as it is, "filled" or not.
-use Prim.Native.Nat.{ℕ, ◌+◌, ◌-◌, ◌≤◌, ◌<◌}
+use Prim.Native.Nat.{ℕ, ◌+◌, ◌≤◌, ◌<◌}
 use native.Mathlib.Omega.{arith}
 use mathlib.Core.Path.{◌≡◌, refl, sym, ◌∙◌, ap}
 use mathlib.Core.Bool.{true, false}

@@ -1,4 +1,6 @@
 // DDM objects and parameters: document 01, "DDM".
+#![tactic(auto)]
+
 mod record; // record.rt: the record of one object
 
 ghost use Rattle.std.specs.Prelude.{◌≡◌};
