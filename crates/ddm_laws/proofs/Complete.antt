@@ -12,7 +12,6 @@ use Rattle.ddm_object.specs.Objects.{Object, object, parsed}
 use Rattle.layouts.specs.DdmLayout.{Width, Documented, short, long, to_end, Ddm, inline, extended, streamed, Streamed}
 use Rattle.ddm_laws.proofs.FormLaws.{some_bytes}
 use Rattle.ddm_length.proofs.TakenLengths.{TakenLength, all, wide}
-use Rattle.ddm_length.proofs.TakenLengths as Taken
 use Rattle.wire.proofs.WireLaws.{be16_front, pick_yes}
 use Rattle.ddm_object.proofs.ObjectReads.{Reads, content_plain}
 use Rattle.wire.proofs.OctetLaws.{octets_take}

@@ -1,1 +1,2 @@
 // The laws of the definitions of DDM: theorems alone (specs/).
+#![tactic(auto)]
