@@ -4,7 +4,7 @@ use native.Mathlib.Nat.{add-zero}
 use native.Mathlib.Omega.{arith}
 use mathlib.Core.Path.{◌≡◌, refl, sym, ap, ap₂, ◌∙◌}
 use mathlib.Core.Bool.{Bool}
-use mathlib.Core.List.{List, [], ◌∷◌, ◌++◌, append_assoc, append-nil}
+use mathlib.Core.List.{List, [], ◌∷◌, ◌++◌}
 use lib.Dec.{ltb, leb, eqb}
 use lib.ListN.{length, length-append}
 use borrow.Author.Tests.{ltb-false, leb-true}
@@ -18,7 +18,7 @@ use Rattle.dss_head.specs.declared.HeadFound.{HeadFound}
 use Rattle.dss_head.specs.declared.HeadFound.TheVariants.{Head, Refused as NoHead}
 use Rattle.dss_frame.specs.declared.Rules.{Rules}
 use Rattle.dss_frame.specs.declared.Rules.TheVariants.{Reader, Salvage}
-use Rattle.dss_frame.specs.Segments.{Segment, segment_bytes, first, payload_of, end_of}
+use Rattle.dss_frame.specs.Segments.{Segment, first, payload_of, end_of}
 use Rattle.dss_frame.specs.Reading.{Look, finished, absorbs, refuses, refusal, look, look_at, follows, own_object, dropped_at, starts_extended, Read, with_chained, absorb}
 use Rattle.dss_laws.proofs.Ends.{end_snoc, payload_one, payload_snoc}
 use Rattle.dss_laws.proofs.Looking.{absorb_finished, absorb_absorbs, absorb_refuses}

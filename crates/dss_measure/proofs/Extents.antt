@@ -3,7 +3,6 @@ use Prim.Native.Nat.{ℕ}
 use native.Mathlib.Omega.{arith}
 use mathlib.Core.Path.{◌≡◌, refl}
 use Rattle.answer.specs.declared.Refused.{Refused}
-use Rattle.dss_measure.specs.declared.Extent.{Extent}
 use Rattle.dss_measure.specs.declared.Extent.TheVariants.{Frame as Spans, Refused as NoExtent}
 use Rattle.dss_measure.specs.declared.FrameMeasure.{FrameMeasure}
 use Rattle.dss_measure.specs.declared.Measured.{Measured}

@@ -1,4 +1,6 @@
 // Measuring a frame: what it is, how long its payload, where it ends. Touches nothing. Document 01, "Reading".
+#![tactic(auto)]
+
 mod behind; // behind.rt: what a head behind a frame comes to
 mod glance; // glance.rt: what can be told of a frame without measuring it
 mod payload; // payload.rt: what is kept of the payload so far
@@ -21,7 +23,7 @@ use dss_head::{
 
 // A frame before its payload is taken: its head, with the last segment's chained flag, its payload's length, its segments,
 // and the byte after its last.
-#[derive(Drop)]
+#[derive(Clone, Copy)]
 pub struct FrameMeasure {
     pub header: DssHeader,
     pub payload_len: usize,
@@ -47,14 +49,14 @@ impl FrameMeasure {
 }
 
 // What measuring comes to: every refusal but 9.
-#[derive(Drop)]
+#[derive(Clone, Copy)]
 pub enum Measured {
     Frame(FrameMeasure),
     Refused(Refused),
 }
 
 // A frame's extent alone: its payload's length and the byte after its last.
-#[derive(Drop)]
+#[derive(Clone, Copy)]
 pub enum Extent {
     Frame { payload_len: usize, end: usize },
     Refused(Refused),
@@ -62,7 +64,7 @@ pub enum Extent {
 
 // What the walk over a frame's own segments comes to: the byte after the last, how many there are and how long the payload
 // is; or that bytes are missing; or where a continuation length of 0 or 1 stands, which no further bytes can mend.
-#[derive(Drop)]
+#[derive(Clone, Copy)]
 pub enum Walked {
     Whole {
         end: usize,
@@ -75,7 +77,7 @@ pub enum Walked {
 
 // What a look at what follows a frame says: nothing more belongs to it; or the segment there does, of which so many marker bytes
 // are dropped, which ends there, and whose chained flag this is; or the head there is refused.
-#[derive(Drop)]
+#[derive(Clone, Copy)]
 pub enum Look {
     Finished,
     Absorbs {
@@ -87,7 +89,7 @@ pub enum Look {
 }
 
 // A payload so far: its length and its first two bytes, 0 where there is none.
-#[derive(Drop)]
+#[derive(Clone, Copy)]
 pub struct PayloadSoFar {
     pub len: usize,
     pub first: u8,

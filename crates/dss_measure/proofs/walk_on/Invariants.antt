@@ -1,0 +1,15 @@
+-- The loop's invariant: the walk from its first place comes to what the walk from the present one comes to, behind the segments and
+-- the payload so far. The measure is what is left of the run.
+use Prim.Native.Nat.{◌-◌, ◌≤◌}
+use mathlib.Core.Path.{◌≡◌}
+use lib.ListN.{length}
+use Rattle.dss_measure.proofs.WalkLaws.{walked_on}
+use Rattle.dss_measure.proofs.walk_on.Given as goal
+
+abbrev pub invariant-loop-rules : goal.invariant-loop-rules
+invariant-loop-rules l =
+    (l.at ≤ length l.run) × (l.segments ≤ l.at) × (l.payload_len ≤ l.at)
+    × (walked_on l.rules l.run l.from l.before l.payload_before ≡ walked_on l.rules l.run l.at l.segments l.payload_len)
+
+abbrev pub decreases-loop-rules : goal.decreases-loop-rules
+decreases-loop-rules l = length l.run - l.at
