@@ -63,7 +63,12 @@ module _ (l : List (ℕ × List ℕ)) (g : Fit l) where
   reached_joined = ap reached parameters_joined ∙ pieces_reach (joined_pieces l g)
 
 abbrev pub pairs_of : List Object → List (ℕ × List ℕ)
-pairs_of = map (λ o. (o.code_point, o.content))
+pairs_of [] = []
+pairs_of (o ∷ os) = (o.code_point, o.content) ∷ pairs_of os
+
+pub pairs_map : (os : List Object) → map (λ (o : Object). (o.code_point, o.content)) os ≡ pairs_of os
+pairs_map [] = refl
+pairs_map (o ∷ os) = ap (λ m. (o.code_point, o.content) ∷ m) (pairs_map os)
 
 pub pairs_objects : (l : List (ℕ × List ℕ)) → pairs_of (objects_of l) ≡ l
 pairs_objects [] = refl

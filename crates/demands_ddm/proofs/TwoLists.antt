@@ -26,7 +26,7 @@ use Rattle.ddm_object.specs.declared.DdmObject.{DdmObject}
 use Rattle.ddm_object.specs.declared.Stepped.{Stepped}
 use Rattle.ddm_object.specs.declared.Stepped.TheVariants.{Param, Refused as NoStep}
 use Rattle.ddm_laws.proofs.LayoutLaws.{built_ddm, ddm_fixes, parse_back}
-use Rattle.ddm_laws.proofs.BuiltLists.{parameters_pairs, joined_injective}
+use Rattle.ddm_laws.proofs.BuiltLists.{pairs_map, parameters_pairs, joined_injective}
 use Rattle.gateway_words.specs.AnswerWords.{Answered, laid_words}
 use Rattle.gateway_object.specs.ObjectWords.{step_words}
 use Rattle.gateway_builder.specs.BuilderWords.{Makes, made_laid}
@@ -80,7 +80,7 @@ step_gives s at cp d next x = record { of = plain at cp (built_header d) (length
 
 pub two_lists : TwoLists built_all parameters param_step_at
 two_lists = record {
-  gives_back = parameters_pairs;
+  gives_back = λ l g. pairs_map (parameters (built_all l)) ∙ parameters_pairs l g;
   ends_there = λ l g. walk_mono (step_gives (built_all l)) (λ at x. x) (built_walked l g);
   same_list = joined_injective;
 }

@@ -8,16 +8,14 @@ ghost use Rattle.gateway_head.specs.HeadWords.{chunk_number, type_words, head_wo
 use dss_head::{Chunk, DssFlags, DssHeader, DssType, HeadFound, TypeFound};
 use gateway_words::{put_done, put_laid, put_refusal};
 
-#[unsafe(no_mangle)]
-pub extern "C" fn lattrugone_decode_dss_length(raw: u16) -> u16
+pub fn lattrugone_decode_dss_length(raw: u16) -> u16
     ensures { result ≡ length_of raw }
 {
     dss_head::decode_dss_length(raw)
 }
 
 // 1 where another continuation must follow, else 0.
-#[unsafe(no_mangle)]
-pub extern "C" fn lattrugone_is_full_continuation_len(raw: u16) -> u8
+pub fn lattrugone_is_full_continuation_len(raw: u16) -> u8
     ensures { result ≡ pick (is_full raw) 1 0 }
 {
     if dss_head::is_full_continuation_len(raw) {
@@ -27,16 +25,14 @@ pub extern "C" fn lattrugone_is_full_continuation_len(raw: u16) -> u8
     }
 }
 
-#[unsafe(no_mangle)]
-pub extern "C" fn lattrugone_decode_continuation_len(raw: u16) -> usize
+pub fn lattrugone_decode_continuation_len(raw: u16) -> usize
     ensures { result ≡ continuation_length raw }
 {
     dss_head::decode_continuation_len(raw)
 }
 
 // 0 dead, 1 the last, 2 full.
-#[unsafe(no_mangle)]
-pub extern "C" fn lattrugone_decide_continuation(raw: u16) -> u8
+pub fn lattrugone_decide_continuation(raw: u16) -> u8
     ensures { result ≡ chunk_number (chunk_of raw) }
 {
     match dss_head::decide_continuation(raw) {
@@ -47,8 +43,7 @@ pub extern "C" fn lattrugone_decide_continuation(raw: u16) -> u8
 }
 
 // The result: the type's byte.
-#[unsafe(no_mangle)]
-pub extern "C" fn lattrugone_type_from_byte(b: u8, words: &mut [u64]) -> u8
+pub fn lattrugone_type_from_byte(b: u8, words: &mut [u64]) -> u8
     ensures { Answered (type_words (type_at b 0)) words.old result words.new }
 {
     match DssType::from_byte(b) {
@@ -58,8 +53,7 @@ pub extern "C" fn lattrugone_type_from_byte(b: u8, words: &mut [u64]) -> u8
 }
 
 // The flags in a format byte, as their own byte.
-#[unsafe(no_mangle)]
-pub extern "C" fn lattrugone_flags_from_byte(b: u8) -> u8
+pub fn lattrugone_flags_from_byte(b: u8) -> u8
     ensures { result ≡ flags_byte (flags_of b) }
 {
     let flags = DssFlags::from_byte(b);
@@ -67,8 +61,7 @@ pub extern "C" fn lattrugone_flags_from_byte(b: u8) -> u8
 }
 
 // The result: length, the type's byte, the flags' byte, correlation.
-#[unsafe(no_mangle)]
-pub extern "C" fn lattrugone_head_parse(data: &[u8], words: &mut [u64]) -> u8
+pub fn lattrugone_head_parse(data: &[u8], words: &mut [u64]) -> u8
     ensures { Answered (head_words (head_at «data».now 0)) words.old result words.new }
 {
     match DssHeader::parse(data) {
@@ -90,8 +83,7 @@ pub extern "C" fn lattrugone_head_parse(data: &[u8], words: &mut [u64]) -> u8
 }
 
 // The result: how many bytes were laid down at the room's start. A type's byte is refused as by type_from_byte.
-#[unsafe(no_mangle)]
-pub extern "C" fn lattrugone_head_serialize(
+pub fn lattrugone_head_serialize(
     length: u16,
     dss_type: u8,
     flags: u8,
