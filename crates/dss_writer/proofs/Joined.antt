@@ -7,7 +7,7 @@ use mathlib.Core.Bool.{Bool, true, false}
 use mathlib.Core.List.{List, [], ◌∷◌, ◌++◌}
 use lib.ListN.{length, get_or, replicate, length-append}
 use contract.Lifetimes.{Lfts}
-use denote.Ref.{MutBor, at_last}
+use denote.Ref.{Bor, MutBor, at_last}
 use borrow.Author.Tests.{le-leb}
 use Rattle.wire.specs.Bytes.{part, splice, laid}
 use Rattle.wire.proofs.WireLaws.{pick_yes}
@@ -72,7 +72,7 @@ writes_joined w v f g room r r' l l' h e p q =
           ∙ splice_splice room w.fill (written f) (written g) (omega arith);
     }
 
-pub joined : (κs κs' : Lfts 2) (w v : DssWriter) (t t' : DssType) (chained chained' same same' : Bool) (payload payload' room again : MutBor (List ℕ)) (r r' : Wrote) (l l' : List ℕ)
+pub joined : (κs κs' : Lfts 2) (w v : DssWriter) (t t' : DssType) (chained chained' same same' : Bool) (payload payload' : Bor (List ℕ)) (room again : MutBor (List ℕ)) (r r' : Wrote) (l l' : List ℕ)
     → let f = sent w.correlation_id t chained same payload.now in
     let g = sent v.correlation_id t' chained' same' payload'.now in
     w.fill + length (written f ++ written g) ≤ length room.now → v.fill ≡ w.fill + length (written f) → again.now ≡ l
@@ -109,7 +109,7 @@ pub nothing_written : (w : DssWriter) (f : Sent) (room : List ℕ) (r : Wrote) �
 nothing_written w f room r h other p = other (room_part w f room r room h p)
 
 -- the same of the contract
-pub nothing_written_post : (κs : Lfts 2) (w : DssWriter) (t : DssType) (chained same : Bool) (payload room : MutBor (List ℕ)) (r : Wrote)
+pub nothing_written_post : (κs : Lfts 2) (w : DssWriter) (t : DssType) (chained same : Bool) (payload : Bor (List ℕ)) (room : MutBor (List ℕ)) (r : Wrote)
     → let f = sent w.correlation_id t chained same payload.now in
     w.fill + length (written f) ≤ length room.now → (part room.now w.fill (w.fill + length (written f)) ≡ written f → ⊥)
     → write_dss_full.Post κs (w, (t, (chained, (same, (payload, (room, tt)))))) r (w, (t, (chained, (same, (payload, (at_last room room.now, tt))))))

@@ -60,7 +60,7 @@ data_one κs w room r r' p q = (p.bytes_are ∙ sym q.bytes_are, p.starts ∙ sy
 
 -- one is allowed, whatever is given
 pub data_some : (κs : Lfts 1) (w : DssWriter) (room : Bor (List ℕ))
-    → filled_part.Post κs (w, (room, tt)) (record { ref_ptr = start_at room (pick (leb w.fill (length room.now)) 0 (length room.now)); ghost_name = room.ghost_name; now = filled w.fill room.now }) (w, (room, tt))
+    → filled_part.Post κs (w, (room, tt)) (record { ref_ptr = start_at room (pick (leb w.fill (length room.now)) 0 (length room.now)); now = filled w.fill room.now }) (w, (room, tt))
 data_some κs w room = record { bytes_are = refl; starts = refl }
 
 -- with the mark within a room of three bytes and beyond it: two bytes at its start, and none at its end

@@ -1,5 +1,7 @@
 // Writing frames into lent room: document 01, module 2; the Rust's `DssWriter`. The state goes in by value and comes back,
 // and the room is lent to each call.
+#![tactic(auto)]
+
 ghost use Rattle.std.specs.Prelude.{◌+◌, ◌^◌, ◌≤◌, ◌<◌, ◌≡◌, true, false, [], ◌++◌, length};
 ghost use Rattle.wire.specs.Bytes.{two, splice, laid};
 ghost use Rattle.answer.specs.Rooms.{capped, Lays};
@@ -17,14 +19,14 @@ use dss_head::{
 };
 
 // A writer's state: the correlation of the frames to come, and how much of the lent room is filled.
-#[derive(Drop)]
+#[derive(Clone, Copy)]
 pub struct DssWriter {
     pub correlation_id: u16,
     pub fill: usize,
 }
 
 // What writing a frame comes to: the state after it, or the refusal, which leaves state and room as they were.
-#[derive(Drop)]
+#[derive(Clone, Copy)]
 pub enum Wrote {
     Done(DssWriter),
     Refused(Refused),
@@ -102,7 +104,9 @@ pub(crate) fn lay_chunk(raw_length: u16, bytes: &[u8], room: &mut [u8])
     ensures { room.new ≡ splice room.old 0 (two raw_length ++ bytes.now) }
 {
     wire::put_u16(room, raw_length);
-    bytes::copy(bytes, &mut room[DSS_CONTINUATION_HEADER_LEN..]);
+    room[DSS_CONTINUATION_HEADER_LEN..DSS_CONTINUATION_HEADER_LEN + bytes.len()].copy_from_slice(
+        bytes,
+    );
 }
 
 // The continuations of what the first segment left, at the room's start.

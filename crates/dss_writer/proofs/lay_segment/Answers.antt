@@ -4,14 +4,12 @@ use native.Mathlib.Omega.{arith}
 use mathlib.Core.Path.{◌≡◌, ap, ap₂, ◌∙◌}
 use mathlib.Core.List.{List, [], ◌++◌}
 use lib.ListN.{length}
-use borrow.Author.Rules.{rules}
 use Rattle.wire.specs.Bytes.{splice, laid}
 use Rattle.wire.proofs.Splicing.{splice_length, splice_splice, laid_fits}
 use Rattle.dss_head.specs.Heads.{head_bytes}
 use Rattle.dss_frame.specs.Written.{head_of}
 use Rattle.dss_writer.specs.Writer.{sent}
-use Rattle.dss_writer.proofs.lay_segment.Statement.{statement}
-use Rattle.dss_writer.proofs.lay_segment.Tie as tie
+use Rattle.dss_writer.proofs.lay_segment.Goals as goal
 
 -- x at the start of a room, and y behind it
 behind : (r x y s t : List ℕ) → length x + length y ≤ length r → s ≡ laid r 0 x → t ≡ laid s (length x) y → t ≡ splice r 0 (x ++ y)
@@ -21,11 +19,8 @@ behind r x y s t h e f =
     let z : length x ≡ 0 + length x = omega arith in
     f ∙ laid_fits s (length x) y (omega arith) ∙ ap₂ (λ (v : List ℕ) (n : ℕ). splice v n y) k z ∙ splice_splice r 0 x y (omega arith)
 
-returns : tie.Need-returns
+pub returns : goal.returns
 returns c =
-    let a = c.before.before.before.before.before.before.before.before.before.before.args in
-    behind a.room.now (head_bytes (head_of (sent a.correlation_id a.dss-type a.chained a.same-correlation []) a.raw-length)) a.bytes.now _ _
-    (omega arith) c.before.before.before.before.before.before.lay-head.ensures c.before.before.Lay-at.ensures
-
-pub lay_segment_spec : {M : Type 1} → statement M
-lay_segment_spec = tie.close (tie.spec (λ c κs. search rules) (λ c κs. search rules) (λ c. search rules) returns)
+    let a = c.args in
+    behind a.room.now (head_bytes (head_of (sent a.correlation_id a.dss_type a.chained a.same_correlation []) a.raw_length)) a.bytes.now _ _
+    (omega arith) c.lay_head.ensures c.lay_at.ensures
