@@ -12,18 +12,22 @@ class Function:
     def __init__(self, crate, file, line, path, signature, clauses):
         self.crate, self.file, self.line, self.path = crate, file, line, path
         self.name = path[-1]
-        self.signature = signature
+        self.signature, self.clauses = signature, clauses
         self.requires = [c for c in clauses if c.startswith("requires")]
         self.ensures = [c for c in clauses if c.startswith("ensures")]
-        self.exported = 'extern "C"' in signature
 
     def __str__(self):
         return f"{self.file.relative_to(ROOT)}:{self.line}: {'.'.join(self.path)}"
 
 
+def exports():
+    """The static libraries: NAME_c has the functions of NAME as C calls them."""
+    return re.findall(r"^(\w+) staticlib:", (ROOT / "crates.txt").read_text(), re.M)
+
+
 def libraries():
-    """The crates with a src/lib.rt, by name."""
-    return sorted(d.name for d in CRATES.iterdir() if (d / "src/lib.rt").exists())
+    """The crates with a src/lib.rt that others use, by name."""
+    return sorted(d.name for d in CRATES.iterdir() if (d / "src/lib.rt").exists() and d.name not in exports())
 
 
 def for_programs_only():
