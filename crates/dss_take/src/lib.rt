@@ -1,5 +1,7 @@
 // Measure, then take: document 02, W-208. `measure` says what a frame is and how much room its payload wants, `take` lays the payload
 // into lent room, each segment's part copied once. Both are told which rules hold; what they read is document 01, "Reading".
+#![tactic(auto)]
+
 ghost use Rattle.std.specs.Prelude.{◌+◌, ◌-◌, ◌≤◌, ◌≡◌, length, take};
 ghost use Rattle.wire.specs.Bytes.{be16, part, splice};
 ghost use Rattle.dss_frame.specs.Reading.{starts_extended};
