@@ -1,5 +1,5 @@
+pub mod ObjectFilling
 pub mod ObjectLists
 pub mod ObjectRowLaws
 pub mod ObjectWorks
-pub mod BothLists
 pub mod Unique

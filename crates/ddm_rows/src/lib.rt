@@ -1,5 +1,7 @@
 // All objects of a run, or all parameters of an object's data, into a lent row of records; and the walk over parameters: document
 // 01, "DDM".
+#![tactic(auto)]
+
 mod rows; // rows.rt: the work area and the row of a list
 
 ghost use Rattle.std.specs.Prelude.{◌≡◌, length};
@@ -16,7 +18,7 @@ use ddm_object::{DdmObject, Stepped};
 
 // What listing all objects, or all parameters, comes to: how many records stand in the row, and how many bytes of the work
 // area are filled.
-#[derive(Drop)]
+#[derive(Clone, Copy)]
 pub enum ObjectsFound {
     Objects { count: usize, work: usize },
     Refused(Refused),

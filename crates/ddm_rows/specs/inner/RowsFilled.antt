@@ -1,5 +1,5 @@
 -- What the loop that fills a row of records leaves in it.
-use Rattle.std.specs.Prelude.{ℕ, zero, suc, ◌+◌, ◌≡◌, Bool, List, [], ◌∷◌, ◌++◌, length, drop}
+use Rattle.std.specs.Prelude.{ℕ, zero, suc, ◌≡◌, Bool, List, [], ◌∷◌, ◌++◌, length, drop}
 use Rattle.ddm_object.specs.ObjectCalls.{param_step_at}
 use Rattle.ddm_object.specs.declared.Stepped.{Stepped}
 use Rattle.ddm_object.specs.declared.Stepped.TheVariants.{Param, Refused as NoStep}
