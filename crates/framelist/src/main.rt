@@ -1,4 +1,7 @@
 // Lists the frames of standard input: document 01, the last part of "Both sides of each edge".
-fn main() {
-    show::show(libc::STDIN_FILENO, dss_frame::Rules::Reader);
+#![tactic(auto)]
+
+fn main(rt: HostRuntime) {
+    let mut input = rt.stdin();
+    show::show(&rt, &mut input, dss_frame::Rules::Reader);
 }

@@ -1,41 +1,56 @@
 // Lists each file of data/ as `framelist` and as `salvagelist` do, behind a line with the file's name.
+#![tactic(auto)]
+
 use dss_frame::Rules;
+use std::rt::Files;
+use std::{fs, io};
 
-fn list_as(name: &[u8], rules: Rules) {
-    let fd = os::open_read(name);
-    if fd < 0 {
-        os::fail(name);
-        return;
+// Says on standard error what failed, and why: what std says of it, without the number that it puts behind.
+fn fail(rt: &(impl Eprint + Alloc), what: &str, error: &io::Error) -> io::Result<()> {
+    let said = format!(in rt.alloc(); "{error}")?;
+    let text = said.as_str();
+    let why = match text.rsplit_once(" (os error ") {
+        Some((why, _)) => why,
+        None => text,
+    };
+    eprintln!(rt; "{what}: {why}")
+}
+
+fn list_as(rt: &(impl Files + Print + Eprint + Alloc), name: &str, rules: Rules) {
+    match fs::open(rt, name) {
+        Ok(mut file) => {
+            show::show(rt, &mut file, rules);
+        }
+        Err(error) => {
+            let _ = fail(rt, name, &error);
+        }
     }
-    show::show(fd, rules);
-    libc::close(fd);
 }
 
-fn list_file(name: &[u8]) {
-    io::write_all(libc::STDOUT_FILENO, name);
-    io::write_all(libc::STDOUT_FILENO, b"\n");
-    list_as(name, Rules::Reader);
-    list_as(name, Rules::Salvage);
+fn list_file(rt: &(impl Files + Print + Eprint + Alloc), name: &str) {
+    let _ = rt.println(name);
+    list_as(rt, name, Rules::Reader);
+    list_as(rt, name, Rules::Salvage);
 }
 
-fn main() {
-    list_file(b"empty");
-    list_file(b"largest");
-    list_file(b"too_long");
-    list_file(b"not_whole");
-    list_file(b"not_whole_type");
-    list_file(b"dead_length");
-    list_file(b"magic");
-    list_file(b"type");
-    list_file(b"length");
-    list_file(b"ahead_magic");
-    list_file(b"ahead_type");
-    list_file(b"ahead_length");
-    list_file(b"absorbed");
-    list_file(b"own_object");
-    list_file(b"noreply");
-    list_file(b"marker");
-    list_file(b"spoilt");
-    list_file(b"connect");
-    list_file(b"errors");
+fn main(rt: HostRuntime) {
+    list_file(&rt, "empty");
+    list_file(&rt, "largest");
+    list_file(&rt, "too_long");
+    list_file(&rt, "not_whole");
+    list_file(&rt, "not_whole_type");
+    list_file(&rt, "dead_length");
+    list_file(&rt, "magic");
+    list_file(&rt, "type");
+    list_file(&rt, "length");
+    list_file(&rt, "ahead_magic");
+    list_file(&rt, "ahead_type");
+    list_file(&rt, "ahead_length");
+    list_file(&rt, "absorbed");
+    list_file(&rt, "own_object");
+    list_file(&rt, "noreply");
+    list_file(&rt, "marker");
+    list_file(&rt, "spoilt");
+    list_file(&rt, "connect");
+    list_file(&rt, "errors");
 }

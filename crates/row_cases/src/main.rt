@@ -1,5 +1,7 @@
 // Rows of records, lent from local arrays and taken back: `read_all_frames`, `salvage` and `parameters` on a run each. Prints the
 // first four records of each row, of which the last is as it was, and what its room then holds.
+#![tactic(auto)]
+
 mod say; // say.rt: records as text
 
 use ddm_object::DdmObject;
@@ -7,7 +9,6 @@ use dss_frame::DssFrame;
 use dss_head::{DssFlags, DssHeader, DssType};
 use dss_reader::DssReader;
 use dss_salvage::{Entry, SalvageEntry};
-use libc::STDOUT_FILENO;
 
 // A frame's record that no run has.
 fn blank_frame() -> DssFrame {
@@ -33,7 +34,7 @@ fn blank_frame() -> DssFrame {
 }
 
 // A reply of no bytes; an object of two segments, AB and C; a request, DE.
-fn show_frames() {
+fn show_frames(rt: &impl Print) {
     let run =
         b"\x00\x06\xD0\x02\x00\x07\x00\x08\xD0\x03\x00\x01AB\x00\x07\xD0\x53\x00\x01C\x00\x08\xD0\x01\x00\x02DE";
     let mut room = [b'.'; 8];
@@ -44,16 +45,15 @@ fn show_frames() {
     let b = row[1];
     let c = row[2];
     let d = row[3];
-    say::frame(a);
-    say::frame(b);
-    say::frame(c);
-    say::frame(d);
-    io::write_all(STDOUT_FILENO, &room);
-    io::write_all(STDOUT_FILENO, b"\n");
+    say::frame(rt, a);
+    say::frame(rt, b);
+    say::frame(rt, c);
+    say::frame(rt, d);
+    say::bytes(rt, &room);
 }
 
 // A reply, AB; one whose type is 6; a request, C, and behind it two bytes.
-fn show_entries() {
+fn show_entries(rt: &impl Print) {
     let run =
         b"\x00\x08\xD0\x02\x00\x07AB\x00\x07\xD0\x06\x00\x07x\x00\x07\xD0\x01\x00\x02C\x00\x06";
     let mut room = [b'.'; 8];
@@ -66,16 +66,15 @@ fn show_entries() {
     let b = row[1];
     let c = row[2];
     let d = row[3];
-    say::entry(a);
-    say::entry(b);
-    say::entry(c);
-    say::entry(d);
-    io::write_all(STDOUT_FILENO, &room);
-    io::write_all(STDOUT_FILENO, b"\n");
+    say::entry(rt, a);
+    say::entry(rt, b);
+    say::entry(rt, c);
+    say::entry(rt, d);
+    say::bytes(rt, &room);
 }
 
 // AB inline; C extended; DE of raw length 8004, which takes all that is left.
-fn show_parameters() {
+fn show_parameters(rt: &impl Print) {
     let data = b"\x00\x06\x24\x01AB\x80\x05\x24\x02\x01C\x80\x04\x24\x03DE";
     let mut work = [b'.'; 8];
     let blank = DdmObject {
@@ -91,16 +90,15 @@ fn show_parameters() {
     let b = row[1];
     let c = row[2];
     let d = row[3];
-    say::object(a);
-    say::object(b);
-    say::object(c);
-    say::object(d);
-    io::write_all(STDOUT_FILENO, &work);
-    io::write_all(STDOUT_FILENO, b"\n");
+    say::object(rt, a);
+    say::object(rt, b);
+    say::object(rt, c);
+    say::object(rt, d);
+    say::bytes(rt, &work);
 }
 
-fn main() {
-    show_frames();
-    show_entries();
-    show_parameters();
+fn main(rt: HostRuntime) {
+    show_frames(&rt);
+    show_entries(&rt);
+    show_parameters(&rt);
 }

@@ -1,69 +1,73 @@
-// Records as text, a line each.
+// Records as text, a line each. Where standard output takes no more, nothing is left to say it on.
 use ddm_object::DdmObject;
 use dss_frame::DssFrame;
 use dss_salvage::{Entry, SalvageEntry};
-use libc::STDOUT_FILENO;
 
-fn number(before: &[u8], n: u64) {
-    io::write_all(STDOUT_FILENO, before);
-    io::print_decimal(STDOUT_FILENO, n);
+fn number(rt: &impl Print, before: &str, n: u64) {
+    let _ = print!(rt; "{before}{n}");
 }
 
-fn byte(before: &[u8], n: u8) {
-    number(before, n as u64);
+fn byte(rt: &impl Print, before: &str, n: u8) {
+    number(rt, before, n as u64);
 }
 
-fn word(before: &[u8], n: u16) {
-    number(before, n as u64);
+fn word(rt: &impl Print, before: &str, n: u16) {
+    number(rt, before, n as u64);
 }
 
-fn count(before: &[u8], n: usize) {
-    number(before, n as u64);
+fn count(rt: &impl Print, before: &str, n: usize) {
+    number(rt, before, n as u64);
 }
 
 // Where a record's frame stood, and the line's end.
-fn stretch(at: usize, end: usize) {
-    count(b" from ", at);
-    count(b" to ", end);
-    io::write_all(STDOUT_FILENO, b"\n");
+fn stretch(rt: &impl Print, at: usize, end: usize) {
+    count(rt, " from ", at);
+    count(rt, " to ", end);
+    let _ = rt.print("\n");
 }
 
-pub(crate) fn frame(frame: DssFrame) {
+pub(crate) fn frame(rt: &impl Print, frame: DssFrame) {
     let head = frame.header;
     let dss_type = head.dss_type;
     let flags = head.flags;
-    word(b"frame length ", head.length);
-    byte(b" type ", dss_type.to_byte());
-    byte(b" flags ", flags.to_byte());
-    word(b" corr ", head.correlation_id);
-    count(b" at ", frame.payload_at);
-    count(b" bytes ", frame.payload_len);
-    count(b" seg ", frame.segments);
-    stretch(frame.at, frame.end);
+    word(rt, "frame length ", head.length);
+    byte(rt, " type ", dss_type.to_byte());
+    byte(rt, " flags ", flags.to_byte());
+    word(rt, " corr ", head.correlation_id);
+    count(rt, " at ", frame.payload_at);
+    count(rt, " bytes ", frame.payload_len);
+    count(rt, " seg ", frame.segments);
+    stretch(rt, frame.at, frame.end);
 }
 
-pub(crate) fn entry(e: SalvageEntry) {
+pub(crate) fn entry(rt: &impl Print, e: SalvageEntry) {
     let what = e.entry;
     match what {
-        Entry::Frame(f) => frame(f),
+        Entry::Frame(f) => frame(rt, f),
         Entry::Refused { refused, at, end } => {
             let why = refused.why;
-            byte(b"refused ", why.number());
-            count(b" at ", refused.place);
-            count(b" value ", why.first_value());
-            stretch(at, end);
+            byte(rt, "refused ", why.number());
+            count(rt, " at ", refused.place);
+            count(rt, " value ", why.first_value());
+            stretch(rt, at, end);
         }
     }
 }
 
-pub(crate) fn object(o: DdmObject) {
-    word(b"object ", o.code_point);
+pub(crate) fn object(rt: &impl Print, o: DdmObject) {
+    word(rt, "object ", o.code_point);
     let in_work = o.in_work;
     if in_work {
-        io::write_all(STDOUT_FILENO, b" in work");
+        let _ = rt.print(" in work");
     }
-    count(b" at ", o.data_at);
-    count(b" bytes ", o.data_len);
-    count(b" takes ", o.consumed);
-    io::write_all(STDOUT_FILENO, b"\n");
+    count(rt, " at ", o.data_at);
+    count(rt, " bytes ", o.data_len);
+    count(rt, " takes ", o.consumed);
+    let _ = rt.print("\n");
+}
+
+// What a room holds.
+pub(crate) fn bytes(rt: &impl Print, room: &[u8]) {
+    let _ = rt.write_all(room);
+    let _ = rt.print("\n");
 }

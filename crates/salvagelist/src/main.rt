@@ -1,4 +1,7 @@
 // Lists what can be salvaged of standard input, what is refused of it, and the tail: document 01, "Salvage reading".
-fn main() {
-    show::show(libc::STDIN_FILENO, dss_frame::Rules::Salvage);
+#![tactic(auto)]
+
+fn main(rt: HostRuntime) {
+    let mut input = rt.stdin();
+    show::show(&rt, &mut input, dss_frame::Rules::Salvage);
 }

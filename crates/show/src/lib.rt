@@ -1,9 +1,12 @@
 // What the programs share: an input is read, listed and written out, and where reading or writing fails, a line says so.
-ghost use Rattle.std.specs.Prelude.{◌≡◌, length};
-ghost use Rattle.io.specs.Counts.{IsPrefixLen};
+#![tactic(auto)]
+
+ghost use Rattle.std.specs.Prelude.{false, take, ◌≡◌, ◌<◌, ◌≤◌, length};
+ghost use Rattle.std.specs.Io.KnownBytes.{Consumes, IsAtEnd};
 
 use answer::Laid;
 use dss_frame::Rules;
+use std::io::Read;
 
 // One byte more than is listed, so that a longer input shows.
 fn input_bytes() -> [u8; 65537]
@@ -26,21 +29,33 @@ struct Input {
     failed: bool,
 }
 
-// Reads an open file until it ends, the buffer is full or a read fails; `io::read_full` doesn't tell the last from the first.
-fn read_input(fd: i32, buf: &mut [u8]) -> Input
-    ensures { IsPrefixLen result.count buf.new }
+// Reads until the input ends, the buffer is full or a read fails; std's `read_to_end` would read on behind the buffer's end, and
+// `read_exact` doesn't tell how much it read.
+fn read_input<R: Read>(from: &mut R, buf: &mut [u8]) -> Input
+    ensures within { result.count ≤ length buf.new }
+    ensures prefix { result.count ≡ length (take result.count buf.new) }
+    ensures bytes { Consumes (R.remaining from.old) (R.remaining from.new) (take result.count buf.new) }
+    ensures end { result.failed ≡ false → result.count < length buf.new → IsAtEnd (R.remaining from.new) }
 {
     let mut count = 0;
     while count < buf.len() {
-        let got = libc::read(fd, &mut buf[count..]);
-        let more = io::count(got, &buf[count..]);
-        if more == 0 {
-            return Input {
-                count,
-                failed: got < 0,
-            };
+        match from.read(&mut buf[count..]) {
+            Ok(0) => {
+                return Input {
+                    count,
+                    failed: false,
+                };
+            }
+            Ok(more) => {
+                count += more;
+            }
+            Err(_) => {
+                return Input {
+                    count,
+                    failed: true,
+                };
+            }
         }
-        count += more;
     }
     Input {
         count,
@@ -49,24 +64,24 @@ fn read_input(fd: i32, buf: &mut [u8]) -> Input
 }
 
 // Writes to standard output. Where that fails, standard error is what is left to say it on.
-fn write_out(text: &[u8]) {
-    if !io::write_all(libc::STDOUT_FILENO, text) {
-        io::write_all(libc::STDERR_FILENO, b"output can't be written\n");
+fn write_out(rt: &(impl Print + Eprint), text: &[u8]) {
+    if rt.write_all(text).is_err() {
+        let _ = rt.eprintln("output can't be written");
     }
 }
 
 // Reads an open file and writes the list of it to standard output.
-pub fn show(fd: i32, rules: Rules) {
+pub fn show<R: Read>(rt: &(impl Print + Eprint), from: &mut R, rules: Rules) {
     let mut input = input_bytes();
-    let read = read_input(fd, &mut input);
+    let read = read_input(from, &mut input);
     if read.failed {
-        write_out(b"input can't be read\n");
+        write_out(rt, b"input can't be read\n");
         return;
     }
     let mut room = text_bytes();
     match listing::list(rules, &input[..read.count], &mut room) {
         Laid::Bytes(count) => {
-            write_out(&room[..count]);
+            write_out(rt, &room[..count]);
         }
         Laid::Refused(_) => {}
     }
