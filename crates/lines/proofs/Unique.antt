@@ -6,7 +6,7 @@ use mathlib.Core.List.{List}
 use lib.ListN.{length}
 use lib.Seq.{sets}
 use contract.Lifetimes.{Lfts}
-use denote.Ref.{Bor, MutBor, at_last}
+use denote.Ref.{MutBor, at_last}
 use Rattle.answer.specs.Rooms.{capped}
 use Rattle.answer.specs.declared.Refused.{Refused}
 use Rattle.dss_head.specs.declared.DssType.{DssType}
@@ -20,7 +20,7 @@ use Rattle.lines.proofs.put_frame.Reads as put_frame
 use Rattle.lines.proofs.put_refused.Reads as Put_refused
 use Rattle.lines.proofs.put_end.Reads as put_end
 
-module _ (κs : Lfts 1) (room : Bor (List ℕ)) (at : ℕ) where
+module _ (κs : Lfts 1) (room : MutBor (List ℕ)) (at : ℕ) where
   -- the mark and the room behind a text
   abbrev mark_of : List ℕ → ℕ
   mark_of t = capped (at + length t)

@@ -1,4 +1,6 @@
 // The lines of `framelist` and `salvagelist`: document 01, the last part of "Both sides of each edge".
+#![tactic(auto)]
+
 ghost use Rattle.std.specs.Prelude.{◌≡◌};
 ghost use Rattle.wire.specs.Bytes.{pick};
 ghost use Rattle.text.specs.inner.Puts.{Puts};
