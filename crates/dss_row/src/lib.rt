@@ -1,4 +1,6 @@
 // The records of a run's frames, laid into a lent row: document 01, "Reading", "Frames land in a lent row of frame records".
+#![tactic(auto)]
+
 ghost use Rattle.std.specs.Prelude.{◌≡◌, ◌≤◌, length};
 ghost use Rattle.wire.specs.Bytes.{splice};
 ghost use Rattle.dss_row.specs.inner.FrameRows.{record_at, records_from};
@@ -8,7 +10,7 @@ use dss_frame::{DssFrame, RowPlace, Rules};
 use dss_measure::Measured;
 
 // What stands at a place: a record and the place behind it, or none.
-#[derive(Drop)]
+#[derive(Clone, Copy)]
 pub enum RecordFound {
     One(DssFrame, RowPlace),
     End,
