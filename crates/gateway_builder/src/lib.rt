@@ -21,8 +21,7 @@ pub(crate) fn put_added(words: &mut [u64], added: Added) -> u8
 
 // ---- adding to a builder's data, from the fill mark on. The result: the fill mark behind what was added.
 
-#[unsafe(no_mangle)]
-pub extern "C" fn lattrugone_builder_add_code_point(
+pub fn lattrugone_builder_add_code_point(
     fill: usize,
     cp: u16,
     data: &[u8],
@@ -39,8 +38,7 @@ pub extern "C" fn lattrugone_builder_add_code_point(
     put_added(words, added)
 }
 
-#[unsafe(no_mangle)]
-pub extern "C" fn lattrugone_builder_add_u16(
+pub fn lattrugone_builder_add_u16(
     fill: usize,
     cp: u16,
     val: u16,
@@ -57,8 +55,7 @@ pub extern "C" fn lattrugone_builder_add_u16(
     put_added(words, added)
 }
 
-#[unsafe(no_mangle)]
-pub extern "C" fn lattrugone_builder_add_u32(
+pub fn lattrugone_builder_add_u32(
     fill: usize,
     cp: u16,
     val: u32,
@@ -75,8 +72,7 @@ pub extern "C" fn lattrugone_builder_add_u32(
     put_added(words, added)
 }
 
-#[unsafe(no_mangle)]
-pub extern "C" fn lattrugone_builder_add_raw(
+pub fn lattrugone_builder_add_raw(
     fill: usize,
     data: &[u8],
     room: &mut [u8],
@@ -95,8 +91,7 @@ pub extern "C" fn lattrugone_builder_add_raw(
 // ---- a builder's object: its data are the filled part of `content`, and it is laid at the start of `room`. The result: how
 // many bytes were laid down.
 
-#[unsafe(no_mangle)]
-pub extern "C" fn lattrugone_builder_build(
+pub fn lattrugone_builder_build(
     code_point: u16,
     fill: usize,
     content: &[u8],
@@ -111,8 +106,7 @@ pub extern "C" fn lattrugone_builder_build(
 }
 
 // How many bytes the object is, of its data's length; 2^64 - 1 where they are more.
-#[unsafe(no_mangle)]
-pub extern "C" fn lattrugone_builder_total_length(fill: usize) -> usize
+pub fn lattrugone_builder_total_length(fill: usize) -> usize
     ensures { result ≡ builder_total (adding fill) }
 {
     let builder = DdmBuilder {
@@ -124,8 +118,7 @@ pub extern "C" fn lattrugone_builder_total_length(fill: usize) -> usize
 
 // ---- a parameter or an object at the room's first byte. The result: how many bytes were laid down.
 
-#[unsafe(no_mangle)]
-pub extern "C" fn lattrugone_build_param(
+pub fn lattrugone_build_param(
     code_point: u16,
     data: &[u8],
     room: &mut [u8],
@@ -137,8 +130,7 @@ pub extern "C" fn lattrugone_build_param(
     put_laid(words, laid)
 }
 
-#[unsafe(no_mangle)]
-pub extern "C" fn lattrugone_build_param_u16(
+pub fn lattrugone_build_param_u16(
     code_point: u16,
     value: u16,
     room: &mut [u8],
@@ -150,8 +142,7 @@ pub extern "C" fn lattrugone_build_param_u16(
     put_laid(words, laid)
 }
 
-#[unsafe(no_mangle)]
-pub extern "C" fn lattrugone_build_ddm_object(
+pub fn lattrugone_build_ddm_object(
     code_point: u16,
     payload: &[u8],
     room: &mut [u8],

@@ -8,8 +8,7 @@ ghost use Rattle.gateway_change.specs.ChangeWords.{ChangesParam, ChangesFrame};
 use gateway_words::put_laid;
 
 // An object's data with the first parameter of a code point rewritten, at the room's first byte: 17, 11, 9.
-#[unsafe(no_mangle)]
-pub extern "C" fn lattrugone_change_param(
+pub fn lattrugone_change_param(
     data: &[u8],
     code_point: u16,
     new: &[u8],
@@ -23,8 +22,7 @@ pub extern "C" fn lattrugone_change_param(
 }
 
 // How many bytes that lays down, of so many new ones: 17, 11.
-#[unsafe(no_mangle)]
-pub extern "C" fn lattrugone_change_param_len(
+pub fn lattrugone_change_param_len(
     data: &[u8],
     code_point: u16,
     new_len: usize,
@@ -38,8 +36,7 @@ pub extern "C" fn lattrugone_change_param_len(
 
 // A request's frame with the first parameter of a code point rewritten, at the room's first byte: 1 or 16, 2, 3, 7, 17, 4, 5, 6, 8,
 // 17, 11, 18, 9.
-#[unsafe(no_mangle)]
-pub extern "C" fn lattrugone_change_request(
+pub fn lattrugone_change_request(
     frame: &[u8],
     code_point: u16,
     new: &[u8],

@@ -57,8 +57,7 @@ pub(crate) fn put_frames(words: &mut [u64], read: FramesRead) -> u8
 }
 
 // All frames from a position on: their payloads end to end in the room, their records in the row.
-#[unsafe(no_mangle)]
-pub extern "C" fn lattrugone_read_all_frames(
+pub fn lattrugone_read_all_frames(
     run: &[u8],
     at: usize,
     room: &mut [u8],

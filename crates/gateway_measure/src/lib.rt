@@ -36,13 +36,7 @@ pub fn put_measured(words: &mut [u64], at: usize, measured: Measured) -> u8
 }
 
 // The words that lattrugone_next_frame has.
-#[unsafe(no_mangle)]
-pub extern "C" fn lattrugone_measure_frame(
-    rules: u8,
-    run: &[u8],
-    at: usize,
-    words: &mut [u64],
-) -> u8
+pub fn lattrugone_measure_frame(rules: u8, run: &[u8], at: usize, words: &mut [u64]) -> u8
     ensures { Answered (measured_words at (measured_at (rules_of rules) run.now at)) words.old result words.new }
 {
     let rules = rules_of(rules);

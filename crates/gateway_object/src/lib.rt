@@ -26,8 +26,7 @@ pub(crate) fn put_length(words: &mut [u64], found: Marshaled) -> u8
 }
 
 // The result: the whole length that the length field says, and the header's.
-#[unsafe(no_mangle)]
-pub extern "C" fn lattrugone_parse_marshaled_length(data: &[u8], words: &mut [u64]) -> u8
+pub fn lattrugone_parse_marshaled_length(data: &[u8], words: &mut [u64]) -> u8
     ensures { Answered (length_words (marshaled «data».now 0)) words.old result words.new }
 {
     let found = ddm_length::parse_marshaled_length(data);
@@ -35,8 +34,7 @@ pub extern "C" fn lattrugone_parse_marshaled_length(data: &[u8], words: &mut [u6
 }
 
 // Data without its markers, at the room's first byte. The result: how many bytes that are.
-#[unsafe(no_mangle)]
-pub extern "C" fn lattrugone_strip_markers(data: &[u8], room: &mut [u8], words: &mut [u64]) -> u8
+pub fn lattrugone_strip_markers(data: &[u8], room: &mut [u8], words: &mut [u64]) -> u8
     ensures { LaysInWords (unmarked «data».now) room.old words.old result room.new words.new }
 {
     let laid = ddm_length::strip_extended_ddm_continuation_markers(data, room);
@@ -93,8 +91,7 @@ pub(crate) fn put_step(words: &mut [u64], step: Stepped) -> u8
 }
 
 // The object at a place of a run.
-#[unsafe(no_mangle)]
-pub extern "C" fn lattrugone_object(run: &[u8], at: usize, work: &mut [u8], words: &mut [u64]) -> u8
+pub fn lattrugone_object(run: &[u8], at: usize, work: &mut [u8], words: &mut [u64]) -> u8
     ensures { ReadsObject run.now at work.old words.old result work.new words.new }
 {
     let found = ddm_object::object_at(run, at, work);
@@ -102,13 +99,7 @@ pub extern "C" fn lattrugone_object(run: &[u8], at: usize, work: &mut [u8], word
 }
 
 // The first parameter with a code point.
-#[unsafe(no_mangle)]
-pub extern "C" fn lattrugone_find_param(
-    data: &[u8],
-    code_point: u16,
-    work: &mut [u8],
-    words: &mut [u64],
-) -> u8
+pub fn lattrugone_find_param(data: &[u8], code_point: u16, work: &mut [u8], words: &mut [u64]) -> u8
     ensures { ReadsParam «data».now code_point work.old words.old result work.new words.new }
 {
     let found = ddm_object::find_param(data, code_point, work);
@@ -116,8 +107,7 @@ pub extern "C" fn lattrugone_find_param(
 }
 
 // The parameter at a place, by measuring alone; in the place's word the next place. 10, then 11 where the list ends.
-#[unsafe(no_mangle)]
-pub extern "C" fn lattrugone_param_step(data: &[u8], at: usize, words: &mut [u64]) -> u8
+pub fn lattrugone_param_step(data: &[u8], at: usize, words: &mut [u64]) -> u8
     ensures { Answered (step_words (param_step_at «data».now at)) words.old result words.new }
 {
     let step = ddm_object::step_at(data, at);
@@ -125,8 +115,7 @@ pub extern "C" fn lattrugone_param_step(data: &[u8], at: usize, words: &mut [u64
 }
 
 // How many bytes the builder would make of an object with so much data, whatever else its record says.
-#[unsafe(no_mangle)]
-pub extern "C" fn lattrugone_object_total_length(data_len: usize) -> usize
+pub fn lattrugone_object_total_length(data_len: usize) -> usize
     ensures { result ≡ capped (built_size data_len) }
 {
     let o = DdmObject {
@@ -181,24 +170,21 @@ pub(crate) fn put_i32(words: &mut [u64], found: I32Found) -> u8
     }
 }
 
-#[unsafe(no_mangle)]
-pub extern "C" fn lattrugone_as_u16(data: &[u8], words: &mut [u64]) -> u8
+pub fn lattrugone_as_u16(data: &[u8], words: &mut [u64]) -> u8
     ensures { Answered (u16_words (u16_of «data».now)) words.old result words.new }
 {
     let found = ddm_object::as_u16(data);
     put_u16(words, found)
 }
 
-#[unsafe(no_mangle)]
-pub extern "C" fn lattrugone_as_u32(data: &[u8], words: &mut [u64]) -> u8
+pub fn lattrugone_as_u32(data: &[u8], words: &mut [u64]) -> u8
     ensures { Answered (u32_words (u32_of «data».now)) words.old result words.new }
 {
     let found = ddm_object::as_u32(data);
     put_u32(words, found)
 }
 
-#[unsafe(no_mangle)]
-pub extern "C" fn lattrugone_as_i32(data: &[u8], words: &mut [u64]) -> u8
+pub fn lattrugone_as_i32(data: &[u8], words: &mut [u64]) -> u8
     ensures { Answered (i32_words (i32_of «data».now)) words.old result words.new }
 {
     let found = ddm_object::as_i32(data);

@@ -67,26 +67,14 @@ pub(crate) fn list(
 // The result: how many records stand in the row, and how many bytes of the work area are filled.
 
 // All objects of a run.
-#[unsafe(no_mangle)]
-pub extern "C" fn lattrugone_objects(
-    run: &[u8],
-    work: &mut [u8],
-    row: &mut [u64],
-    words: &mut [u64],
-) -> u8
+pub fn lattrugone_objects(run: &[u8], work: &mut [u8], row: &mut [u64], words: &mut [u64]) -> u8
     ensures { ObjectsWords run.now work.old row.old words.old result work.new row.new words.new }
 {
     list(run, true, work, row, words)
 }
 
 // All parameters of an object's data.
-#[unsafe(no_mangle)]
-pub extern "C" fn lattrugone_parameters(
-    data: &[u8],
-    work: &mut [u8],
-    row: &mut [u64],
-    words: &mut [u64],
-) -> u8
+pub fn lattrugone_parameters(data: &[u8], work: &mut [u8], row: &mut [u64], words: &mut [u64]) -> u8
     ensures { ParametersWords «data».now work.old row.old words.old result work.new row.new words.new }
 {
     list(data, false, work, row, words)

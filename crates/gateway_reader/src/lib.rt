@@ -33,8 +33,7 @@ pub(crate) fn put_frame(words: &mut [u64], read: FrameRead) -> u8
 }
 
 // How many bytes of the run aren't read yet.
-#[unsafe(no_mangle)]
-pub extern "C" fn lattrugone_remaining(run: &[u8], at: usize) -> usize
+pub fn lattrugone_remaining(run: &[u8], at: usize) -> usize
     ensures { result ≡ length run.now - at }
 {
     let reader = DssReader { position: at };
@@ -42,8 +41,7 @@ pub extern "C" fn lattrugone_remaining(run: &[u8], at: usize) -> usize
 }
 
 // 1 where the frame at the position is whole, else 0.
-#[unsafe(no_mangle)]
-pub extern "C" fn lattrugone_has_frame(run: &[u8], at: usize) -> u8
+pub fn lattrugone_has_frame(run: &[u8], at: usize) -> u8
     ensures { result ≡ pick (is_end (frame_end run.now at)) 1 0 }
 {
     let reader = DssReader { position: at };
@@ -52,8 +50,7 @@ pub extern "C" fn lattrugone_has_frame(run: &[u8], at: usize) -> u8
 
 // ---- the frame's end. The result: the byte after its last.
 
-#[unsafe(no_mangle)]
-pub extern "C" fn lattrugone_frame_end(run: &[u8], at: usize, words: &mut [u64]) -> u8
+pub fn lattrugone_frame_end(run: &[u8], at: usize, words: &mut [u64]) -> u8
     ensures { Answered (end_words (frame_end run.now at)) words.old result words.new }
 {
     let reader = DssReader { position: at };
@@ -61,8 +58,7 @@ pub extern "C" fn lattrugone_frame_end(run: &[u8], at: usize, words: &mut [u64])
     put_end(words, found)
 }
 
-#[unsafe(no_mangle)]
-pub extern "C" fn lattrugone_first_frame_end(run: &[u8], words: &mut [u64]) -> u8
+pub fn lattrugone_first_frame_end(run: &[u8], words: &mut [u64]) -> u8
     ensures { Answered (end_words (frame_end run.now 0)) words.old result words.new }
 {
     let found = DssReader::first_complete_frame_len(run);
@@ -73,13 +69,7 @@ pub extern "C" fn lattrugone_first_frame_end(run: &[u8], words: &mut [u64]) -> u
 // format byte, correlation, the payload's length, segments, its first byte. A refusal's place is the position after it, but 16's,
 // which is that of a length inside the frame: the position stays.
 
-#[unsafe(no_mangle)]
-pub extern "C" fn lattrugone_next_frame(
-    run: &[u8],
-    at: usize,
-    room: &mut [u8],
-    words: &mut [u64],
-) -> u8
+pub fn lattrugone_next_frame(run: &[u8], at: usize, room: &mut [u8], words: &mut [u64]) -> u8
     ensures { ReadsFrame run.now at room.old words.old result room.new words.new }
 {
     let reader = DssReader { position: at };

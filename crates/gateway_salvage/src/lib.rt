@@ -62,13 +62,7 @@ pub(crate) fn put_salvaged(words: &mut [u64], salvaged: Salvaged) -> u8
 }
 
 // All that can be read of a run: the payloads of its frames end to end in the room, one record for each entry in the row.
-#[unsafe(no_mangle)]
-pub extern "C" fn lattrugone_salvage(
-    run: &[u8],
-    room: &mut [u8],
-    row: &mut [u64],
-    words: &mut [u64],
-) -> u8
+pub fn lattrugone_salvage(run: &[u8], room: &mut [u8], row: &mut [u64], words: &mut [u64]) -> u8
     ensures { SalvagesInWords run.now room.old row.old words.old result room.new row.new words.new }
 {
     let salvaged = dss_salvage_call::gather_entries(run, room, row.len() / RECORD_WORDS);

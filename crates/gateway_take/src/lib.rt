@@ -6,8 +6,7 @@ ghost use Rattle.gateway_take.specs.TakeWords.{TakesFrame};
 use gateway_measure::{put_measured, rules_of};
 
 // The words that lattrugone_measure_frame has, and the payload at the room's first byte.
-#[unsafe(no_mangle)]
-pub extern "C" fn lattrugone_take_frame(
+pub fn lattrugone_take_frame(
     rules: u8,
     run: &[u8],
     at: usize,

@@ -42,15 +42,13 @@ pub(crate) fn mark_first(fill: usize, size: usize, refused: Refused) -> Refused
 }
 
 // The bytes that a frame takes, of its payload's length; 2^64 - 1 where they are more.
-#[unsafe(no_mangle)]
-pub extern "C" fn lattrugone_frame_size(payload_len: usize) -> usize
+pub fn lattrugone_frame_size(payload_len: usize) -> usize
     ensures { result ≡ capped (frame_size payload_len) }
 {
     dss_writer::frame_size(payload_len)
 }
 
-#[unsafe(no_mangle)]
-pub extern "C" fn lattrugone_next_correlation_id(id: u16) -> u16
+pub fn lattrugone_next_correlation_id(id: u16) -> u16
     ensures { result ≡ (next_correlation (fresh_writer id)).correlation_id }
 {
     let writer = DssWriter::new(id).next_correlation_id();
@@ -60,8 +58,7 @@ pub extern "C" fn lattrugone_next_correlation_id(id: u16) -> u16
 // ---- a frame from the fill mark on. The result: the correlation, and the fill mark behind the frame.
 
 // Of the flags' byte, 0x40 is chained and 0x10 same correlation; continue on error is never set.
-#[unsafe(no_mangle)]
-pub extern "C" fn lattrugone_write_dss_full(
+pub fn lattrugone_write_dss_full(
     correlation_id: u16,
     fill: usize,
     dss_type: u8,
@@ -86,8 +83,7 @@ pub extern "C" fn lattrugone_write_dss_full(
     }
 }
 
-#[unsafe(no_mangle)]
-pub extern "C" fn lattrugone_write_dss(
+pub fn lattrugone_write_dss(
     correlation_id: u16,
     fill: usize,
     dss_type: u8,
@@ -111,8 +107,7 @@ pub extern "C" fn lattrugone_write_dss(
     }
 }
 
-#[unsafe(no_mangle)]
-pub extern "C" fn lattrugone_write_request(
+pub fn lattrugone_write_request(
     correlation_id: u16,
     fill: usize,
     chained: u8,
@@ -130,8 +125,7 @@ pub extern "C" fn lattrugone_write_request(
     put_wrote(words, wrote)
 }
 
-#[unsafe(no_mangle)]
-pub extern "C" fn lattrugone_write_request_no_reply(
+pub fn lattrugone_write_request_no_reply(
     correlation_id: u16,
     fill: usize,
     chained: u8,
@@ -149,8 +143,7 @@ pub extern "C" fn lattrugone_write_request_no_reply(
     put_wrote(words, wrote)
 }
 
-#[unsafe(no_mangle)]
-pub extern "C" fn lattrugone_write_object(
+pub fn lattrugone_write_object(
     correlation_id: u16,
     fill: usize,
     chained: u8,
@@ -168,8 +161,7 @@ pub extern "C" fn lattrugone_write_object(
     put_wrote(words, wrote)
 }
 
-#[unsafe(no_mangle)]
-pub extern "C" fn lattrugone_write_object_same_corr(
+pub fn lattrugone_write_object_same_corr(
     correlation_id: u16,
     fill: usize,
     chained: u8,
@@ -187,8 +179,7 @@ pub extern "C" fn lattrugone_write_object_same_corr(
     put_wrote(words, wrote)
 }
 
-#[unsafe(no_mangle)]
-pub extern "C" fn lattrugone_write_request_next_same_corr(
+pub fn lattrugone_write_request_next_same_corr(
     correlation_id: u16,
     fill: usize,
     chained: u8,
@@ -208,8 +199,7 @@ pub extern "C" fn lattrugone_write_request_next_same_corr(
 
 // ---- a frame at the room's first byte. The result: how many bytes were laid down.
 
-#[unsafe(no_mangle)]
-pub extern "C" fn lattrugone_build_dss_request(
+pub fn lattrugone_build_dss_request(
     correlation_id: u16,
     chained: u8,
     payload: &[u8],
@@ -222,8 +212,7 @@ pub extern "C" fn lattrugone_build_dss_request(
     put_laid(words, laid)
 }
 
-#[unsafe(no_mangle)]
-pub extern "C" fn lattrugone_build_dss_object(
+pub fn lattrugone_build_dss_object(
     correlation_id: u16,
     chained: u8,
     payload: &[u8],
