@@ -8,7 +8,7 @@ use lib.Dec.{leb}
 use lib.ListN.{length, take}
 use borrow.Author.Tests.{leb-true, eq-eqb}
 use contract.Lifetimes.{Lfts}
-use denote.Ref.{MutBor, at_last}
+use denote.Ref.{Bor, MutBor, at_last}
 use Rattle.wire.proofs.WireLaws.{picked, pick_yes}
 use Rattle.answer.specs.Numbers.{number_of}
 use Rattle.answer.specs.Rooms.{no_room}
@@ -64,7 +64,7 @@ dead_same s t p room again why left r after after' k a b =
     (l ∙ dead_still s p (length room) why left k, b.answers ∙ ap (given_frame (s ++ t) p (length again)) e ∙ sym x, b.room_is ∙ ap (room_read (s ++ t) again) e)
 
 -- over the contract itself
-pub calls_dead : (κs κs' : Lfts 2) (reader left : DssReader) (run longer room again : MutBor (List ℕ)) (t : List ℕ) (why : Refused) (r : FrameRead) (after after' : List ℕ)
+pub calls_dead : (κs κs' : Lfts 2) (reader left : DssReader) (run longer : Bor (List ℕ)) (room again : MutBor (List ℕ)) (t : List ℕ) (why : Refused) (r : FrameRead) (after after' : List ℕ)
     → longer.now ≡ run.now ++ t → number_of why.why ≡ 16
     → next_frame.Post κs (reader, (run, (room, tt))) (NotRead why left) (reader, (run, (at_last room after, tt)))
     → next_frame.Post κs' (reader, (longer, (again, tt))) r (reader, (longer, (at_last again after', tt)))

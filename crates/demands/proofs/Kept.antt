@@ -17,7 +17,7 @@ use prog.Routine.{Routine}
 use types.Logic.{Logic}
 use contract.Lifetimes.{Lfts}
 use contract.Monad.{Fun, fact, fact_mono}
-use denote.Ref.{MutBor, at_last}
+use denote.Ref.{Bor, MutBor, at_last}
 use Rattle.gateway_words.specs.AnswerWords.{answer_len}
 use Rattle.wire.specs.Bytes.{part, joined}
 use Rattle.answer.specs.Numbers.{number_of}
@@ -109,24 +109,24 @@ use Rattle.demands.proofs.KeptRefusals.{writes_kept, reads_kept, all_kept, sends
 -- too." That a call ends and does nothing undefined is what the toolchain proves of every function.
 
 module _ (κs : Lfts 2) (room : MutBor (List ℕ)) (why : Refused) (after : List ℕ) where
-  pub write_refused : (w : DssWriter) (t : DssType) (chained same : Bool) (payload : MutBor (List ℕ))
+  pub write_refused : (w : DssWriter) (t : DssType) (chained same : Bool) (payload : Bor (List ℕ))
       → write_dss_full.Post κs (w, (t, (chained, (same, (payload, (room, tt)))))) (NotWritten why) (w, (t, (chained, (same, (payload, (at_last room after, tt))))))
       → after ≡ room.now
   write_refused w t chained same payload p = writes_kept w (sent w.correlation_id t chained same payload.now) room.now why after p
 
   -- the reader is left at the refusal's place, but with 16 where it was
-  pub read_refused : (reader left : DssReader) (s : MutBor (List ℕ))
+  pub read_refused : (reader left : DssReader) (s : Bor (List ℕ))
       → next_frame.Post κs (reader, (s, (room, tt))) (NotRead why left) (reader, (s, (at_last room after, tt)))
       → (after ≡ room.now) × (left ≡ left_at reader.position why)
   read_refused reader left s p = reads_kept s.now reader.position room.now why left after p
 
-  pub take_refused : (rules : Rules) (s : MutBor (List ℕ)) (at : ℕ)
+  pub take_refused : (rules : Rules) (s : Bor (List ℕ)) (at : ℕ)
       → take_frame.Post κs (rules, (s, (at, (room, tt)))) (NotMeasured why) (rules, (s, (at, (at_last room after, tt))))
       → after ≡ room.now
   take_refused rules s at p = takes_kept rules s.now at room.now why after p
 
 -- A function over a row of records has no `Post`. Its own clause is named, and in any model of the logic it entails the fact.
-module _ {M : Type 1} {𝓤 : Ura M} (𝓛 : Logic 𝓤) (mem : Memory → SProp 𝓤) (routines : Routine → Fun 𝓤) (κs : Lfts 3) (s room : MutBor (List ℕ)) (why : Refused) (room_after : List ℕ) where
+module _ {M : Type 1} {𝓤 : Ura M} (𝓛 : Logic 𝓤) (mem : Memory → SProp 𝓤) (routines : Routine → Fun 𝓤) (κs : Lfts 3) (s : Bor (List ℕ)) (room : MutBor (List ℕ)) (why : Refused) (room_after : List ℕ) where
   pub all_read_refused : (row : MutBor (List DssFrame)) (reader left : DssReader) (row_after : List DssFrame)
       → ent 𝓤 ((read_all_frames.clauses 𝓛 mem routines κs (reader, (s, (room, (row, tt))))).ensures tt (NoneRead why left) (reader, (s, (at_last room room_after, (at_last row row_after, tt)))))
       (fact 𝓤 ((room_after ≡ room.now) × (row_after ≡ row.now) × (left ≡ stands_at why.place)))
@@ -141,23 +141,23 @@ module _ {M : Type 1} {𝓤 : Ura M} (𝓛 : Logic 𝓤) (mem : Memory → SProp
 -- The exported functions: any number but 0 is a refusal's. Its place is also the position that it leaves, but with 16, which leaves it
 -- as it was.
 module _ (words : MutBor (List ℕ)) (number : ℕ) (answer : List ℕ) (other : number ≡ 0 → ⊥) (room : MutBor (List ℕ)) (room_after : List ℕ) where
-  pub exported_write_refused : (κs : Lfts 3) (id fill type flags : ℕ) (payload : MutBor (List ℕ))
+  pub exported_write_refused : (κs : Lfts 3) (id fill type flags : ℕ) (payload : Bor (List ℕ))
       → lattrugone_write_dss_full.Post κs (id, (fill, (type, (flags, (payload, (room, (words, tt))))))) number (id, (fill, (type, (flags, (payload, (at_last room room_after, (at_last words answer, tt)))))))
       → RefusedInWords words.now number answer × (room_after ≡ room.now)
   exported_write_refused κs id fill type flags payload p =
       sends_kept words.now number answer other (type_at type 0) (writer_of id fill) (frame_of id (bit 0x40 flags) (bit 0x10 flags) payload.now) room.now room_after p
 
-  pub exported_read_refused : (κs : Lfts 3) (s : MutBor (List ℕ)) (at : ℕ)
+  pub exported_read_refused : (κs : Lfts 3) (s : Bor (List ℕ)) (at : ℕ)
       → lattrugone_next_frame.Post κs (s, (at, (room, (words, tt)))) number (s, (at, (at_last room room_after, (at_last words answer, tt))))
       → RefusedInWords words.now number answer × (room_after ≡ room.now)
   exported_read_refused κs s at p = frame_kept words.now number answer other s.now at room.now room_after p
 
-  pub exported_take_refused : (κs : Lfts 3) (rules : ℕ) (s : MutBor (List ℕ)) (at : ℕ)
+  pub exported_take_refused : (κs : Lfts 3) (rules : ℕ) (s : Bor (List ℕ)) (at : ℕ)
       → lattrugone_take_frame.Post κs (rules, (s, (at, (room, (words, tt))))) number (rules, (s, (at, (at_last room room_after, (at_last words answer, tt)))))
       → RefusedInWords words.now number answer × (room_after ≡ room.now)
   exported_take_refused κs rules s at p = taken_kept words.now number answer other (rules_of rules) s.now at room.now room_after p
 
-  module _ (κs : Lfts 4) (s row : MutBor (List ℕ)) (row_after : List ℕ) where
+  module _ (κs : Lfts 4) (s : Bor (List ℕ)) (row : MutBor (List ℕ)) (row_after : List ℕ) where
     pub exported_all_read_refused : (at : ℕ)
         → lattrugone_read_all_frames.Post κs (s, (at, (room, (row, (words, tt))))) number (s, (at, (at_last room room_after, (at_last row row_after, (at_last words answer, tt)))))
         → RefusedInWords words.now number answer × (room_after ≡ room.now) × (row_after ≡ row.now)
@@ -169,7 +169,7 @@ module _ (words : MutBor (List ℕ)) (number : ℕ) (answer : List ℕ) (other :
 
 -- ---- Demand 2, one frame
 
-module _ (κs κs' : Lfts 2) (w : DssWriter) (t : DssType) (chained same : Bool) (payload room : MutBor (List ℕ)) (wrote : Wrote) (laid : List ℕ) (lent into : MutBor (List ℕ)) (r : FrameRead) (after : List ℕ) where
+module _ (κs κs' : Lfts 2) (w : DssWriter) (t : DssType) (chained same : Bool) (payload : Bor (List ℕ)) (room : MutBor (List ℕ)) (wrote : Wrote) (laid : List ℕ) (lent : Bor (List ℕ)) (into : MutBor (List ℕ)) (r : FrameRead) (after : List ℕ) where
   abbrev asked : Sent
   asked = asked_of w t chained same payload
 
@@ -183,7 +183,7 @@ module _ (κs κs' : Lfts 2) (w : DssWriter) (t : DssType) (chained same : Bool)
 
 -- The same of the exported functions, lent eight words each. A writer is its correlation and its fill mark, a type a byte that says it,
 -- flags a byte.
-module _ (κs κs' : Lfts 3) (id fill type flags : ℕ) (t : DssType) (payload room words : MutBor (List ℕ)) (number : ℕ) (laid answer : List ℕ) (lent into words' : MutBor (List ℕ)) (number' : ℕ) (after answer' : List ℕ) where
+module _ (κs κs' : Lfts 3) (id fill type flags : ℕ) (t : DssType) (payload : Bor (List ℕ)) (room words : MutBor (List ℕ)) (number : ℕ) (laid answer : List ℕ) (lent : Bor (List ℕ)) (into words' : MutBor (List ℕ)) (number' : ℕ) (after answer' : List ℕ) where
   abbrev of_type : DssType → Sent
   of_type = asked_in_words id flags payload
 
@@ -200,7 +200,7 @@ module _ (κs κs' : Lfts 3) (id fill type flags : ℕ) (t : DssType) (payload r
 
 -- ---- Demand 2, all frames of a run of written frames that stand by themselves, from its first byte on, with enough room and row
 
-pub all_read_back : {M : Type 1} {𝓤 : Ura M} (𝓛 : Logic 𝓤) (mem : Memory → SProp 𝓤) (routines : Routine → Fun 𝓤) (κs : Lfts 3) (run room : MutBor (List ℕ)) (row : MutBor (List DssFrame)) (r : FramesRead) (room_after : List ℕ) (row_after : List DssFrame)
+pub all_read_back : {M : Type 1} {𝓤 : Ura M} (𝓛 : Logic 𝓤) (mem : Memory → SProp 𝓤) (routines : Routine → Fun 𝓤) (κs : Lfts 3) (run : Bor (List ℕ)) (room : MutBor (List ℕ)) (row : MutBor (List DssFrame)) (r : FramesRead) (room_after : List ℕ) (row_after : List DssFrame)
     → (fs : List Sent) → AllAlone fs → run.now ≡ joined written fs → length (payloads fs) ≤ length room.now → length fs ≤ length row.now
     → ent 𝓤 ((read_all_frames.clauses 𝓛 mem routines κs (stands_at 0, (run, (room, (row, tt))))).ensures tt r (stands_at 0, (run, (at_last room room_after, (at_last row row_after, tt)))))
     (fact 𝓤 (AllBack fs room.now row.now r room_after row_after))
@@ -208,7 +208,7 @@ all_read_back 𝓛 mem routines κs run room row r room_after row_after fs a e h
     read_all_frames_back 𝓛 mem routines κs (stands_at 0) run room row r room_after row_after fs a refl e h k
 
 -- the exported function, with a row of ten words a record
-pub exported_all_read_back : (κs : Lfts 4) (run room row words : MutBor (List ℕ)) (number : ℕ) (room_after row_after answer : List ℕ)
+pub exported_all_read_back : (κs : Lfts 4) (run : Bor (List ℕ)) (room row words : MutBor (List ℕ)) (number : ℕ) (room_after row_after answer : List ℕ)
     → (fs : List Sent) → AllAlone fs → run.now ≡ joined written fs → length (payloads fs) ≤ length room.now → length fs * record_len ≤ length row.now → answer_len ≤ length words.now
     → lattrugone_read_all_frames.Post κs (run, (0, (room, (row, (words, tt))))) number (run, (0, (at_last room room_after, (at_last row row_after, (at_last words answer, tt)))))
     → AllBackInWords fs room.now row.now number room_after row_after answer
@@ -236,14 +236,14 @@ pub layout_fixed : LayoutFixes Dss
 layout_fixed = layout_fixes
 
 -- What a call laid down between its two fill marks has the layout of what was asked for, where the volume allows that.
-pub laid_out : (κs : Lfts 2) (w d : DssWriter) (t : DssType) (chained same : Bool) (payload room : MutBor (List ℕ)) (laid : List ℕ)
+pub laid_out : (κs : Lfts 2) (w d : DssWriter) (t : DssType) (chained same : Bool) (payload : Bor (List ℕ)) (room : MutBor (List ℕ)) (laid : List ℕ)
     → Allowed (structure_of (sent w.correlation_id t chained same payload.now))
     → write_dss_full.Post κs (w, (t, (chained, (same, (payload, (room, tt)))))) (Done d) (w, (t, (chained, (same, (payload, (at_last room laid, tt))))))
     → Dss (structure_of (sent w.correlation_id t chained same payload.now)) (part laid w.fill d.fill)
 laid_out κs w d t chained same payload room laid a p = write_dss_laid κs w d t chained same payload room laid a p
 
 -- Bytes with a structure's layout are read as the structure, from their first on; with a full last chunk it is 1.
-module _ (κs : Lfts 2) (b room : MutBor (List ℕ)) (r : FrameRead) (after : List ℕ) (w : Structure) (l : Dss w b.now) (p : next_frame.Post κs (stands_at 0, (b, (room, tt))) r (stands_at 0, (b, (at_last room after, tt)))) where
+module _ (κs : Lfts 2) (b : Bor (List ℕ)) (room : MutBor (List ℕ)) (r : FrameRead) (after : List ℕ) (w : Structure) (l : Dss w b.now) (p : next_frame.Post κs (stands_at 0, (b, (room, tt))) r (stands_at 0, (b, (at_last room after, tt)))) where
   pub laid_read : (FullLast l → ⊥) → length w.payload ≤ length room.now → StructureBack w b.now room.now r after
   laid_read n h = next_frame_laid κs (stands_at 0) b room r after w l refl n h p
 
@@ -251,14 +251,14 @@ module _ (κs : Lfts 2) (b room : MutBor (List ℕ)) (r : FrameRead) (after : Li
   laid_not_whole n = layout_not_whole w b.now l room.now r after p n
 
 -- The same of the exported functions, lent eight words.
-pub exported_laid_out : (κs : Lfts 3) (id fill type flags : ℕ) (t : DssType) (payload room words : MutBor (List ℕ)) (laid answer : List ℕ)
+pub exported_laid_out : (κs : Lfts 3) (id fill type flags : ℕ) (t : DssType) (payload : Bor (List ℕ)) (room words : MutBor (List ℕ)) (laid answer : List ℕ)
     → type_at type 0 ≡ Is t → Allowed (structure_of (sent id t (bit 0x40 flags) (bit 0x10 flags) payload.now)) → answer_len ≤ length words.now
     → lattrugone_write_dss_full.Post κs (id, (fill, (type, (flags, (payload, (room, (words, tt))))))) 0 (id, (fill, (type, (flags, (payload, (at_last room laid, (at_last words answer, tt)))))))
     → LaidInWords (structure_of (sent id t (bit 0x40 flags) (bit 0x10 flags) payload.now)) fill answer laid
 exported_laid_out κs id fill type flags t payload room words laid answer typed a k p =
     laid_in_words (type_at type 0) t typed id fill (frame_of id (bit 0x40 flags) (bit 0x10 flags) payload.now) refl room.now words.now laid answer k p a
 
-module _ (κs : Lfts 3) (b room words : MutBor (List ℕ)) (number : ℕ) (after answer : List ℕ) (w : Structure) (l : Dss w b.now) (eight : answer_len ≤ length words.now) (p : lattrugone_next_frame.Post κs (b, (0, (room, (words, tt)))) number (b, (0, (at_last room after, (at_last words answer, tt))))) where
+module _ (κs : Lfts 3) (b : Bor (List ℕ)) (room words : MutBor (List ℕ)) (number : ℕ) (after answer : List ℕ) (w : Structure) (l : Dss w b.now) (eight : answer_len ≤ length words.now) (p : lattrugone_next_frame.Post κs (b, (0, (room, (words, tt)))) number (b, (0, (at_last room after, (at_last words answer, tt))))) where
   pub exported_laid_read : (FullLast l → ⊥) → length w.payload ≤ length room.now → StructureBackInWords w b.now room.now number answer after
   exported_laid_read n h = structure_back w b.now l room.now words.now eight number after answer p n h
 
@@ -285,22 +285,22 @@ all_read_as_rust = all_as_four
 pub type_as_rust : (κs : Lfts 0) (b : ℕ) (r : TypeFound) → (b % 16 ≡ 5 → ⊥) → from_byte.Post κs (b, tt) r (b, tt) → r ≡ four_types b 0
 type_as_rust κs b r h p = from_byte_four κs b r h p
 
-pub head_as_rust : (κs : Lfts 1) (bytes : MutBor (List ℕ)) (r : HeadFound) → parse.Post κs (bytes, tt) r (bytes, tt) → SameOrFive bytes.now NoHead r (four_heads bytes.now 0)
+pub head_as_rust : (κs : Lfts 1) (bytes : Bor (List ℕ)) (r : HeadFound) → parse.Post κs (bytes, tt) r (bytes, tt) → SameOrFive bytes.now NoHead r (four_heads bytes.now 0)
 head_as_rust κs bytes r p = parse_four κs bytes r p
 
-pub next_frame_as_rust : (κs : Lfts 2) (reader : DssReader) (s room : MutBor (List ℕ)) (r : FrameRead) (after : List ℕ)
+pub next_frame_as_rust : (κs : Lfts 2) (reader : DssReader) (s : Bor (List ℕ)) (room : MutBor (List ℕ)) (r : FrameRead) (after : List ℕ)
     → next_frame.Post κs (reader, (s, (room, tt))) r (reader, (s, (at_last room after, tt)))
     → AnsweredAs s.now reader.position room.now (read_by four_heads s.now reader.position) r after
     ⊎ FiveRefused s.now refused (read_by four_heads s.now reader.position)
 next_frame_as_rust κs reader s room r after p = next_frame_four s.now reader.position room.now r after p
 
-pub exported_next_frame_as_rust : (κs : Lfts 3) (s : MutBor (List ℕ)) (at : ℕ) (room words : MutBor (List ℕ)) (number : ℕ) (after answer : List ℕ)
+pub exported_next_frame_as_rust : (κs : Lfts 3) (s : Bor (List ℕ)) (at : ℕ) (room words : MutBor (List ℕ)) (number : ℕ) (after answer : List ℕ)
     → lattrugone_next_frame.Post κs (s, (at, (room, (words, tt)))) number (s, (at, (at_last room after, (at_last words answer, tt))))
     → AnsweredInWordsAs s.now at room.now words.now (read_by four_heads s.now at) number after answer
     ⊎ FiveRefused s.now refused (read_by four_heads s.now at)
 exported_next_frame_as_rust κs s at room words number after answer p = words_four s.now at room.now words.now number after answer p
 
-pub exported_all_frames_as_rust : (κs : Lfts 4) (s : MutBor (List ℕ)) (at : ℕ) (room row words : MutBor (List ℕ)) (number : ℕ) (room_after row_after answer : List ℕ)
+pub exported_all_frames_as_rust : (κs : Lfts 4) (s : Bor (List ℕ)) (at : ℕ) (room row words : MutBor (List ℕ)) (number : ℕ) (room_after row_after answer : List ℕ)
     → lattrugone_read_all_frames.Post κs (s, (at, (room, (row, (words, tt))))) number (s, (at, (at_last room room_after, (at_last row row_after, (at_last words answer, tt)))))
     → AllAnsweredInWordsAs s.now at room.now row.now words.now (all_by four_heads s.now at) number room_after row_after answer
     ⊎ FiveRefused s.now refused_all (all_by four_heads s.now at)
@@ -317,7 +317,7 @@ pub waiting_loses_nothing : WaitingLosesNothing (read_at Reader)
 waiting_loses_nothing = reader_loses_nothing
 
 -- so of the calls: the first, made again over a run with more bytes and a room with the same ones, has the same answer and room
-pub taken_again : (κs κs' : Lfts 2) (κs'' : Lfts 1) (reader next : DssReader) (s longer room again : MutBor (List ℕ)) (more : List ℕ) (d : DssFrame) (r : FrameRead) (after after' : List ℕ)
+pub taken_again : (κs κs' : Lfts 2) (κs'' : Lfts 1) (reader next : DssReader) (s longer : Bor (List ℕ)) (room again : MutBor (List ℕ)) (more : List ℕ) (d : DssFrame) (r : FrameRead) (after after' : List ℕ)
     → longer.now ≡ s.now ++ more → again.now ≡ room.now
     → next_frame.Post κs (reader, (s, (room, tt))) (Hands d next) (reader, (s, (at_last room after, tt)))
     → has_complete_frame.Post κs'' (next, (s, tt)) true (next, (s, tt))
@@ -327,7 +327,7 @@ taken_again κs κs' κs'' reader next s longer room again more d r after after'
     calls_same κs κs' κs'' reader next s longer room again more d r after after' e k a c b
 
 -- and of the exported functions, lent eight words: `has_frame` is asked at the position that the first answer says
-pub exported_taken_again : (κs κs' : Lfts 3) (κs'' : Lfts 1) (at : ℕ) (s longer room again words words' : MutBor (List ℕ)) (more after answer : List ℕ) (number : ℕ) (after' answer' : List ℕ)
+pub exported_taken_again : (κs κs' : Lfts 3) (κs'' : Lfts 1) (at : ℕ) (s longer : Bor (List ℕ)) (room again words words' : MutBor (List ℕ)) (more after answer : List ℕ) (number : ℕ) (after' answer' : List ℕ)
     → longer.now ≡ s.now ++ more → again.now ≡ room.now → answer_len ≤ length words.now → answer_len ≤ length words'.now
     → lattrugone_next_frame.Post κs (s, (at, (room, (words, tt)))) 0 (s, (at, (at_last room after, (at_last words answer, tt))))
     → lattrugone_has_frame.Post κs'' (s, (get_or (take answer_len answer) 1 0, tt)) 1 (s, (get_or (take answer_len answer) 1 0, tt))
@@ -343,7 +343,7 @@ pub decided_stay : TakenStay (read_at Reader) (λ s p. decided (frame_end s p))
 decided_stay = reader_decided_stay
 
 -- so of the exported functions, where `frame_end` is asked at that position, whatever words it is lent
-pub exported_taken_by_end : (κs κs' : Lfts 3) (κs'' : Lfts 2) (at : ℕ) (s longer room again words words' end-words : MutBor (List ℕ)) (more after answer end-answer : List ℕ) (end number : ℕ) (after' answer' : List ℕ)
+pub exported_taken_by_end : (κs κs' : Lfts 3) (κs'' : Lfts 2) (at : ℕ) (s longer : Bor (List ℕ)) (room again words words' end-words : MutBor (List ℕ)) (more after answer end-answer : List ℕ) (end number : ℕ) (after' answer' : List ℕ)
     → longer.now ≡ s.now ++ more → again.now ≡ room.now → answer_len ≤ length words.now → answer_len ≤ length words'.now
     → lattrugone_next_frame.Post κs (s, (at, (room, (words, tt)))) 0 (s, (at, (at_last room after, (at_last words answer, tt))))
     → lattrugone_frame_end.Post κs'' (s, (get_or (take answer_len answer) 1 0, (end-words, tt))) end (s, (get_or (take answer_len answer) 1 0, (at_last end-words end-answer, tt)))
@@ -363,7 +363,7 @@ waiting_stops = stops_waiting Reader
 
 -- so of the calls: after 16 the reader stands where it stood, and the call made again over a run with more bytes, into any room, is
 -- refused alike and leaves that room as it is
-pub dead_again : (κs κs' : Lfts 2) (reader left : DssReader) (s longer room again : MutBor (List ℕ)) (more : List ℕ) (why : Refused) (r : FrameRead) (after after' : List ℕ)
+pub dead_again : (κs κs' : Lfts 2) (reader left : DssReader) (s longer : Bor (List ℕ)) (room again : MutBor (List ℕ)) (more : List ℕ) (why : Refused) (r : FrameRead) (after after' : List ℕ)
     → longer.now ≡ s.now ++ more → number_of why.why ≡ 16
     → next_frame.Post κs (reader, (s, (room, tt))) (NotRead why left) (reader, (s, (at_last room after, tt)))
     → next_frame.Post κs' (reader, (longer, (again, tt))) r (reader, (longer, (at_last again after', tt)))
@@ -371,7 +371,7 @@ pub dead_again : (κs κs' : Lfts 2) (reader left : DssReader) (s longer room ag
 dead_again κs κs' reader left s longer room again more why r after after' e k a b = calls_dead κs κs' reader left s longer room again more why r after after' e k a b
 
 -- and of the exported function, lent eight words
-pub exported_dead_again : (κs κs' : Lfts 3) (at : ℕ) (s longer room again words words' : MutBor (List ℕ)) (more after answer : List ℕ) (number : ℕ) (after' answer' : List ℕ)
+pub exported_dead_again : (κs κs' : Lfts 3) (at : ℕ) (s longer : Bor (List ℕ)) (room again words words' : MutBor (List ℕ)) (more after answer : List ℕ) (number : ℕ) (after' answer' : List ℕ)
     → longer.now ≡ s.now ++ more → answer_len ≤ length words.now → answer_len ≤ length words'.now
     → lattrugone_next_frame.Post κs (s, (at, (room, (words, tt)))) 16 (s, (at, (at_last room after, (at_last words answer, tt))))
     → lattrugone_next_frame.Post κs' (longer, (at, (again, (words', tt)))) number (longer, (at, (at_last again after', (at_last words' answer', tt))))
@@ -390,14 +390,14 @@ exported_dead_again κs κs' at s longer room again words words' more after answ
 pub spoilt_told : RefusesSpoilt head_at
 spoilt_told = refuses_spoilt
 
-pub salvaged_back : {M : Type 1} {𝓤 : Ura M} (𝓛 : Logic 𝓤) (mem : Memory → SProp 𝓤) (routines : Routine → Fun 𝓤) (κs : Lfts 3) (s room : MutBor (List ℕ)) (row : MutBor (List SalvageEntry)) (r : Salvaged) (room_after : List ℕ) (row_after : List SalvageEntry)
+pub salvaged_back : {M : Type 1} {𝓤 : Ura M} (𝓛 : Logic 𝓤) (mem : Memory → SProp 𝓤) (routines : Routine → Fun 𝓤) (κs : Lfts 3) (s : Bor (List ℕ)) (room : MutBor (List ℕ)) (row : MutBor (List SalvageEntry)) (r : Salvaged) (room_after : List ℕ) (row_after : List SalvageEntry)
     → (items : List (Item written)) → s.now ≡ run items → length (all_bytes items) ≤ length room.now → length items ≤ length row.now
     → ent 𝓤 ((salvage.clauses 𝓛 mem routines κs (s, (room, (row, tt)))).ensures tt r (s, (at_last room room_after, (at_last row row_after, tt))))
     (fact 𝓤 (Recovered items room.now row.now r room_after row_after))
 salvaged_back 𝓛 mem routines κs s room row r room_after row_after items e h k =
     salvage_recovers 𝓛 mem routines κs s room row room_after row_after items e h k r
 
-pub exported_salvaged_back : (κs : Lfts 4) (s room row words : MutBor (List ℕ)) (number : ℕ) (room_after row_after answer : List ℕ)
+pub exported_salvaged_back : (κs : Lfts 4) (s : Bor (List ℕ)) (room row words : MutBor (List ℕ)) (number : ℕ) (room_after row_after answer : List ℕ)
     → (items : List (Item written)) → s.now ≡ run items → length (all_bytes items) ≤ length room.now → length items * record_len ≤ length row.now → answer_len ≤ length words.now
     → lattrugone_salvage.Post κs (s, (room, (row, (words, tt)))) number (s, (at_last room room_after, (at_last row row_after, (at_last words answer, tt))))
     → RecoveredInWords items room.now row.now number room_after row_after answer
@@ -417,7 +417,7 @@ salvaged_as_read = salvages_as_read
 
 -- so of the exported functions, lent eight words each, and rooms and rows with the same contents: the row of the one is the row of the
 -- other, and so is the room
-pub exported_salvaged_as_read : (κs κs' : Lfts 4) (s room row words room' row' words' : MutBor (List ℕ)) (number number' : ℕ) (room_after row_after answer room-after' row-after' answer' : List ℕ)
+pub exported_salvaged_as_read : (κs κs' : Lfts 4) (s : Bor (List ℕ)) (room row words room' row' words' : MutBor (List ℕ)) (number number' : ℕ) (room_after row_after answer room-after' row-after' answer' : List ℕ)
     → (fs : List Frame) (q : ℕ) → all_frames s.now 0 ≡ frames fs q → NoneFull s.now 0 fs
     → room'.now ≡ room.now → row'.now ≡ row.now → answer_len ≤ length words.now → answer_len ≤ length words'.now
     → lattrugone_read_all_frames.Post κs (s, (0, (room, (row, (words, tt))))) number (s, (0, (at_last room room_after, (at_last row row_after, (at_last words answer, tt)))))

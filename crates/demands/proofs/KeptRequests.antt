@@ -12,7 +12,7 @@ use prog.Routine.{Routine}
 use types.Logic.{Logic}
 use contract.Lifetimes.{Lfts}
 use contract.Monad.{Fun, fact, fact_mono}
-use denote.Ref.{MutBor, at_last}
+use denote.Ref.{Bor, MutBor, at_last}
 use Rattle.gateway_words.specs.AnswerWords.{answer_len}
 use Rattle.answer.specs.Numbers.{number_of}
 use Rattle.answer.specs.declared.Refused.{Refused}
@@ -58,12 +58,12 @@ use Rattle.demands.proofs.OwnHead.{own_head}
 -- ---- W-201, "Where each frame stood", of any run. The first `count` records of a row are those that were listed.
 
 -- one frame, whose stretch is that between the two positions
-pub next_read_stood : (κs : Lfts 2) (reader next : DssReader) (s room : MutBor (List ℕ)) (d : DssFrame) (after : List ℕ)
+pub next_read_stood : (κs : Lfts 2) (reader next : DssReader) (s : Bor (List ℕ)) (room : MutBor (List ℕ)) (d : DssFrame) (after : List ℕ)
     → next_frame.Post κs (reader, (s, (room, tt))) (Hands d next) (reader, (s, (at_last room after, tt)))
     → FramesStood s.now after reader.position next.position (d ∷ [])
 next_read_stood κs reader next s room d after p = next_stood s.now reader.position room.now d next after p
 
-module _ {M : Type 1} {𝓤 : Ura M} (𝓛 : Logic 𝓤) (mem : Memory → SProp 𝓤) (routines : Routine → Fun 𝓤) (κs : Lfts 3) (s room : MutBor (List ℕ)) (room_after : List ℕ) (count bytes : ℕ) where
+module _ {M : Type 1} {𝓤 : Ura M} (𝓛 : Logic 𝓤) (mem : Memory → SProp 𝓤) (routines : Routine → Fun 𝓤) (κs : Lfts 3) (s : Bor (List ℕ)) (room : MutBor (List ℕ)) (room_after : List ℕ) (count bytes : ℕ) where
   -- all frames, from the position to the one that is left
   pub all_read_stood : (row : MutBor (List DssFrame)) (reader left : DssReader) (row_after : List DssFrame)
       → ent 𝓤 ((read_all_frames.clauses 𝓛 mem routines κs (reader, (s, (room, (row, tt))))).ensures tt (Frames count bytes left) (reader, (s, (at_last room room_after, (at_last row row_after, tt)))))
@@ -78,7 +78,7 @@ module _ {M : Type 1} {𝓤 : Ura M} (𝓛 : Logic 𝓤) (mem : Memory → SProp
 
 -- The exported functions, lent eight words: an answer of 0 says in its second word, or its fifth, where the last one ends, and in its
 -- third how many they are.
-module _ (s room words : MutBor (List ℕ)) (room_after answer : List ℕ) (eight : answer_len ≤ length words.now) where
+module _ (s : Bor (List ℕ)) (room words : MutBor (List ℕ)) (room_after answer : List ℕ) (eight : answer_len ≤ length words.now) where
   pub exported_next_read_stood : (κs : Lfts 3) (at : ℕ)
       → lattrugone_next_frame.Post κs (s, (at, (room, (words, tt)))) 0 (s, (at, (at_last room room_after, (at_last words answer, tt))))
       → AnswerStood s.now at room_after answer
@@ -100,7 +100,7 @@ pub measured_then_taken : MeasuresThenTakes measured_at (λ rules s p room. take
 measured_then_taken = measures_then_takes
 
 -- so of the calls, made of the same run, at the same place and under the same rules
-module _ (rules : Rules) (s : MutBor (List ℕ)) (at : ℕ) where
+module _ (rules : Rules) (s : Bor (List ℕ)) (at : ℕ) where
   -- "measuring gives all but 9"
   pub measure_all_but_9 : (κs : Lfts 1) (why : Refused) → measure.Post κs (rules, (s, (at, tt))) (NotMeasured why) (rules, (s, (at, tt))) → number_of why.why ≡ 9 → ⊥
   measure_all_but_9 κs why p k = never_9 rules s.now at why (sym p) k
@@ -135,18 +135,18 @@ module _ (rules : Rules) (s : MutBor (List ℕ)) (at : ℕ) where
   extent_as_measured κs κs' measured extent p q = q ∙ ap extent_of (sym p)
 
 -- by salvage's rules every refusal leaves the position where it was
-pub salvage_measure_stays : (κs : Lfts 1) (s : MutBor (List ℕ)) (at : ℕ) (why : Refused) → measure.Post κs (Salvage, (s, (at, tt))) (NotMeasured why) (Salvage, (s, (at, tt))) → position_left at why ≡ at
+pub salvage_measure_stays : (κs : Lfts 1) (s : Bor (List ℕ)) (at : ℕ) (why : Refused) → measure.Post κs (Salvage, (s, (at, tt))) (NotMeasured why) (Salvage, (s, (at, tt))) → position_left at why ≡ at
 salvage_measure_stays κs s at why p = own_head s.now at why (sym p)
 
 -- "Split `next_frame`": it is taking under the reader's rules, and leaves the room alike
-pub next_frame_as_taken : (κs κs' : Lfts 2) (reader : DssReader) (s room : MutBor (List ℕ)) (r : FrameRead) (after : List ℕ) (r' : Measured) (after' : List ℕ)
+pub next_frame_as_taken : (κs κs' : Lfts 2) (reader : DssReader) (s : Bor (List ℕ)) (room : MutBor (List ℕ)) (r : FrameRead) (after : List ℕ) (r' : Measured) (after' : List ℕ)
     → next_frame.Post κs (reader, (s, (room, tt))) r (reader, (s, (at_last room after, tt)))
     → take_frame.Post κs' (Reader, (s, (reader.position, (room, tt)))) r' (Reader, (s, (reader.position, (at_last room after', tt))))
     → (r ≡ read_of reader.position r') × (after ≡ after')
 next_frame_as_taken κs κs' reader s room r after r' after' p q = next_is_taken s.now reader.position room.now r after r' after' p q
 
 -- and of the exported functions, lent eight words where the words are spoken of. The number of the rules is any.
-module _ (rules : ℕ) (s : MutBor (List ℕ)) (at : ℕ) where
+module _ (rules : ℕ) (s : Bor (List ℕ)) (at : ℕ) where
   pub exported_measure_all_but_9 : (κs : Lfts 2) (words : MutBor (List ℕ)) (number : ℕ) (answer : List ℕ)
       → lattrugone_measure_frame.Post κs (rules, (s, (at, (words, tt)))) number (rules, (s, (at, (at_last words answer, tt))))
       → number ≡ 9 → ⊥
@@ -175,7 +175,7 @@ module _ (rules : ℕ) (s : MutBor (List ℕ)) (at : ℕ) where
   exported_salvage_measure_stays z κs words number answer h p i j = words_own (rules_of rules) s.now at (pick_no _ _ (ne_eqb rules 0 z)) words.now number answer h p i j
 
 -- by the number 0 they are the reader's, and `next_frame`, lent the same, answers and leaves the same
-pub exported_next_frame_as_taken : (κs κs' : Lfts 3) (s : MutBor (List ℕ)) (at : ℕ) (room words : MutBor (List ℕ)) (number : ℕ) (after answer : List ℕ) (number' : ℕ) (after' answer' : List ℕ)
+pub exported_next_frame_as_taken : (κs κs' : Lfts 3) (s : Bor (List ℕ)) (at : ℕ) (room words : MutBor (List ℕ)) (number : ℕ) (after answer : List ℕ) (number' : ℕ) (after' answer' : List ℕ)
     → lattrugone_next_frame.Post κs (s, (at, (room, (words, tt)))) number (s, (at, (at_last room after, (at_last words answer, tt))))
     → lattrugone_take_frame.Post κs' (0, (s, (at, (room, (words, tt))))) number' (0, (s, (at, (at_last room after', (at_last words answer', tt)))))
     → (number ≡ number') × (answer ≡ answer') × (after ≡ after')

@@ -10,7 +10,7 @@ use lib.ListN.{length, take, drop}
 use lib.Seq.{drop_at, length-take-le}
 use borrow.Author.Tests.{le-leb, leb-true}
 use contract.Lifetimes.{Lfts}
-use denote.Ref.{MutBor, at_last}
+use denote.Ref.{Bor, MutBor, at_last}
 use Rattle.wire.specs.Bytes.{part, splice, laid}
 use Rattle.wire.proofs.WireLaws.{pick_yes, picked}
 use Rattle.wire.proofs.Places.{here_part}
@@ -80,7 +80,7 @@ pub between_laid : (w d : DssWriter) (f : Sent) → Allowed (structure_of f) →
 between_laid w d f a room after p = subst (Dss (structure_of f)) (sym (written_between w d f room after p)) (writes_layout f a)
 
 -- over the contract of `write_dss_full` itself, of which the other calls are cases
-pub write_dss_laid : (κs : Lfts 2) (w d : DssWriter) (t : DssType) (chained same : Bool) (payload room : MutBor (List ℕ)) (after : List ℕ)
+pub write_dss_laid : (κs : Lfts 2) (w d : DssWriter) (t : DssType) (chained same : Bool) (payload : Bor (List ℕ)) (room : MutBor (List ℕ)) (after : List ℕ)
     → Allowed (structure_of (sent w.correlation_id t chained same payload.now))
     → write_dss_full.Post κs (w, (t, (chained, (same, (payload, (room, tt)))))) (Done d) (w, (t, (chained, (same, (payload, (at_last room after, tt))))))
     → Dss (structure_of (sent w.correlation_id t chained same payload.now)) (part after w.fill d.fill)
@@ -111,7 +111,7 @@ module _ (w : Structure) (b : List ℕ) (l : Dss w b) (room : List ℕ) (r : Fra
   layout_not_whole k = (p.answers ∙ ap (given_frame b 0 (length room)) (waits_behind_full w b l k), p.room_is ∙ ap (room_read b room) (waits_behind_full w b l k))
 
 -- over the contract of `next_frame` itself
-pub next_frame_laid : (κs : Lfts 2) (reader : DssReader) (run room : MutBor (List ℕ)) (r : FrameRead) (after : List ℕ) (w : Structure) (l : Dss w run.now)
+pub next_frame_laid : (κs : Lfts 2) (reader : DssReader) (run : Bor (List ℕ)) (room : MutBor (List ℕ)) (r : FrameRead) (after : List ℕ) (w : Structure) (l : Dss w run.now)
     → reader ≡ stands_at 0 → (FullLast l → ⊥) → length w.payload ≤ length room.now
     → next_frame.Post κs (reader, (run, (room, tt))) r (reader, (run, (at_last room after, tt))) → StructureBack w run.now room.now r after
 next_frame_laid κs reader run room r after w l e k h p =

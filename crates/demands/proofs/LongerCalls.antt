@@ -11,7 +11,7 @@ use lib.Dec.{leb}
 use lib.ListN.{length, get_or, take}
 use borrow.Author.Tests.{eq-eqb}
 use contract.Lifetimes.{Lfts}
-use denote.Ref.{MutBor, at_last}
+use denote.Ref.{Bor, MutBor, at_last}
 use Rattle.wire.specs.Bytes.{pick, laid}
 use Rattle.wire.proofs.WireLaws.{picked}
 use Rattle.answer.specs.Numbers.{number_of}
@@ -79,7 +79,7 @@ taken_same test stay s t p room d next r r' after after' a h c b = go (read_at R
 
 -- over the contracts themselves: a frame is handed out, a whole one stands behind it, and the first call is made again over a
 -- run with more bytes and a room with the same ones
-pub calls_same : (κs κs' : Lfts 2) (κs'' : Lfts 1) (reader next : DssReader) (run run' room room' : MutBor (List ℕ)) (t : List ℕ) (d : DssFrame) (r' : FrameRead) (after after' : List ℕ)
+pub calls_same : (κs κs' : Lfts 2) (κs'' : Lfts 1) (reader next : DssReader) (run run' : Bor (List ℕ)) (room room' : MutBor (List ℕ)) (t : List ℕ) (d : DssFrame) (r' : FrameRead) (after after' : List ℕ)
     → run'.now ≡ run.now ++ t → room'.now ≡ room.now
     → next_frame.Post κs (reader, (run, (room, tt))) (Hands d next) (reader, (run, (at_last room after, tt)))
     → has_complete_frame.Post κs'' (next, (run, tt)) true (next, (run, tt))

@@ -11,7 +11,7 @@ use prog.Routine.{Routine}
 use types.Logic.{Logic}
 use contract.Lifetimes.{Lfts}
 use contract.Monad.{Fun, fact, fact_mono}
-use denote.Ref.{MutBor, at_last}
+use denote.Ref.{Bor, MutBor, at_last}
 use Rattle.dss_frame.specs.Written.{Sent, written}
 use Rattle.dss_frame.specs.declared.DssFrame.{DssFrame}
 use Rattle.dss_reader.specs.Reader.{stands_at, ReadAllFrames}
@@ -24,7 +24,7 @@ use Rattle.demands.specs.KeptLists.{payloads, AllBack}
 use Rattle.demands.proofs.ReaderKeeps.{frames_back}
 
 -- on a run of written frames that stand by themselves, with enough room and row, from the first byte on
-pub read_all_frames_back : {M : Type 1} {𝓤 : Ura M} (𝓛 : Logic 𝓤) (mem : Memory → SProp 𝓤) (routines : Routine → Fun 𝓤) (κs : Lfts 3) (reader : DssReader) (run room : MutBor (List ℕ)) (row : MutBor (List DssFrame)) (r : FramesRead) (roomAfter : List ℕ) (rowAfter : List DssFrame)
+pub read_all_frames_back : {M : Type 1} {𝓤 : Ura M} (𝓛 : Logic 𝓤) (mem : Memory → SProp 𝓤) (routines : Routine → Fun 𝓤) (κs : Lfts 3) (reader : DssReader) (run : Bor (List ℕ)) (room : MutBor (List ℕ)) (row : MutBor (List DssFrame)) (r : FramesRead) (roomAfter : List ℕ) (rowAfter : List DssFrame)
     → (fs : List Sent) → AllAlone fs → reader ≡ stands_at 0 → run.now ≡ joined written fs → length (payloads fs) ≤ length room.now → length fs ≤ length row.now
     → ent 𝓤 ((read_all_frames.clauses 𝓛 mem routines κs (reader, (run, (room, (row, tt))))).ensures tt r (reader, (run, (at_last room roomAfter, (at_last row rowAfter, tt)))))
     (fact 𝓤 (AllBack fs room.now row.now r roomAfter rowAfter))

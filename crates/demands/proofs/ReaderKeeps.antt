@@ -8,7 +8,7 @@ use mathlib.Core.List.{List, [], ◌∷◌, ◌++◌}
 use lib.ListN.{length}
 use borrow.Author.Tests.{le-leb}
 use contract.Lifetimes.{Lfts}
-use denote.Ref.{MutBor, at_last}
+use denote.Ref.{Bor, MutBor, at_last}
 use Rattle.wire.specs.Bytes.{splice, laid, joined}
 use Rattle.wire.proofs.WireLaws.{pick_yes, and_both}
 use Rattle.wire.proofs.Splicing.{laid_fits}
@@ -107,7 +107,7 @@ frames_back fs a room row h k r roomAfter rowAfter p =
 -- ---- of the code
 
 -- over the contract of `next_frame` itself: the run is a written frame, alone, and the reader stands at its first byte
-pub next_frame_back : (κs : Lfts 2) (f : Sent) → Sendable f → (Unreadable f → ⊥) → (reader : DssReader) (run room : MutBor (List ℕ)) (r : FrameRead) (after : List ℕ)
+pub next_frame_back : (κs : Lfts 2) (f : Sent) → Sendable f → (Unreadable f → ⊥) → (reader : DssReader) (run : Bor (List ℕ)) (room : MutBor (List ℕ)) (r : FrameRead) (after : List ℕ)
     → reader ≡ stands_at 0 → run.now ≡ written f → length f.payload ≤ length room.now
     → next_frame.Post κs (reader, (run, (room, tt))) r (reader, (run, (at_last room after, tt))) → Back f room.now r after
 next_frame_back κs f v u reader run room r after e k h p =
@@ -115,7 +115,7 @@ next_frame_back κs f v u reader run room r after e k h p =
     (subst (λ (s : List ℕ). NextFrame s 0 room.now r after) k
     (subst (λ (d : DssReader). NextFrame run.now d.position room.now r after) e p))
 
-pub next_frame_not_whole : (κs : Lfts 2) (f : Sent) → Sendable f → Unreadable f → (reader : DssReader) (run room : MutBor (List ℕ)) (r : FrameRead) (after : List ℕ)
+pub next_frame_not_whole : (κs : Lfts 2) (f : Sent) → Sendable f → Unreadable f → (reader : DssReader) (run : Bor (List ℕ)) (room : MutBor (List ℕ)) (r : FrameRead) (after : List ℕ)
     → reader ≡ stands_at 0 → run.now ≡ written f
     → next_frame.Post κs (reader, (run, (room, tt))) r (reader, (run, (at_last room after, tt)))
     → (r ≡ NotRead (record { why = Incomplete; place = 0 }) (stands_at 0)) × (after ≡ room.now)

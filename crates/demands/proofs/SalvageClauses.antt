@@ -12,7 +12,7 @@ use prog.Routine.{Routine}
 use types.Logic.{Logic}
 use contract.Lifetimes.{Lfts}
 use contract.Monad.{Fun, fact, fact_mono}
-use denote.Ref.{MutBor, at_last}
+use denote.Ref.{Bor, MutBor, at_last}
 use Rattle.wire.specs.Bytes.{splice}
 use Rattle.wire.proofs.WireLaws.{picked, pick_yes, pick_no}
 use Rattle.answer.specs.Numbers.{number_of}
@@ -76,7 +76,7 @@ refuses s room row r roomAfter rowAfter p =
 
 -- ---- of the code
 
-module _ {M : Type 1} {𝓤 : Ura M} (𝓛 : Logic 𝓤) (mem : Memory → SProp 𝓤) (routines : Routine → Fun 𝓤) (κs : Lfts 3) (s room : MutBor (List ℕ)) (row : MutBor (List SalvageEntry)) (roomAfter : List ℕ) (rowAfter : List SalvageEntry) where
+module _ {M : Type 1} {𝓤 : Ura M} (𝓛 : Logic 𝓤) (mem : Memory → SProp 𝓤) (routines : Routine → Fun 𝓤) (κs : Lfts 3) (s : Bor (List ℕ)) (room : MutBor (List ℕ)) (row : MutBor (List SalvageEntry)) (roomAfter : List ℕ) (rowAfter : List SalvageEntry) where
   -- what the contract of `salvage` says of an answer, with the room and the row as they then are
   abbrev pub Ensured : Salvaged → SProp 𝓤
   Ensured r = (salvage.clauses 𝓛 mem routines κs (s, (room, (row, tt)))).ensures tt r (s, (at_last room roomAfter, (at_last row rowAfter, tt)))

@@ -3,7 +3,7 @@
 -- `at_last room l` is the room that then holds l.
 use Rattle.std.specs.Prelude.{ℕ, ◌≤◌, ◌≡◌, Bool, List, length, take}
 use contract.Lifetimes.{Lfts}
-use denote.Ref.{MutBor, at_last}
+use denote.Ref.{Bor, MutBor, at_last}
 use Rattle.gateway_words.specs.AnswerWords.{answer_len}
 use Rattle.dss_head.specs.Heads.{type_at, bit}
 use Rattle.dss_head.specs.declared.DssType.{DssType}
@@ -22,12 +22,12 @@ use Rattle.demands.specs.Demands.{Sendable}
 use Rattle.demands.specs.KeptMeaning.{mark_behind}
 
 -- the frame that is asked for
-abbrev pub asked_of : DssWriter → DssType → Bool → Bool → MutBor (List ℕ) → Sent
+abbrev pub asked_of : DssWriter → DssType → Bool → Bool → Bor (List ℕ) → Sent
 asked_of w t chained same payload = sent w.correlation_id t chained same payload.now
 
 -- It is written, then read: `write_dss_full` lays it into a room that has place for it, from any fill mark on; then `next_frame` is
 -- lent the room's bytes up to the fill mark behind it, and stands where it starts.
-pub record Calls (κs κs' : Lfts 2) (w : DssWriter) (t : DssType) (chained same : Bool) (payload room : MutBor (List ℕ)) (wrote : Wrote) (laid : List ℕ) (lent into : MutBor (List ℕ)) (r : FrameRead) (after : List ℕ) : Type 0 where
+pub record Calls (κs κs' : Lfts 2) (w : DssWriter) (t : DssType) (chained same : Bool) (payload : Bor (List ℕ)) (room : MutBor (List ℕ)) (wrote : Wrote) (laid : List ℕ) (lent : Bor (List ℕ)) (into : MutBor (List ℕ)) (r : FrameRead) (after : List ℕ) : Type 0 where
   pub sendable : Sendable (asked_of w t chained same payload)
   pub fits : mark_behind w.fill (asked_of w t chained same payload) ≤ length room.now
   pub writes : write_dss_full.Post κs (w, (t, (chained, (same, (payload, (room, tt)))))) wrote (w, (t, (chained, (same, (payload, (at_last room laid, tt))))))
@@ -36,10 +36,10 @@ pub record Calls (κs κs' : Lfts 2) (w : DssWriter) (t : DssType) (chained same
 
 -- The same of the exported functions, lent the words of an answer each. A writer is its correlation and its fill mark, a type a byte that
 -- says it, flags a byte.
-abbrev pub asked_in_words : ℕ → ℕ → MutBor (List ℕ) → DssType → Sent
+abbrev pub asked_in_words : ℕ → ℕ → Bor (List ℕ) → DssType → Sent
 asked_in_words id flags payload t = sent id t (bit 0x40 flags) (bit 0x10 flags) payload.now
 
-pub record ExportedCalls (κs κs' : Lfts 3) (id fill type flags : ℕ) (t : DssType) (payload room words : MutBor (List ℕ)) (number : ℕ) (laid answer : List ℕ) (lent into words' : MutBor (List ℕ)) (number' : ℕ) (after answer' : List ℕ) : Type 0 where
+pub record ExportedCalls (κs κs' : Lfts 3) (id fill type flags : ℕ) (t : DssType) (payload : Bor (List ℕ)) (room words : MutBor (List ℕ)) (number : ℕ) (laid answer : List ℕ) (lent : Bor (List ℕ)) (into words' : MutBor (List ℕ)) (number' : ℕ) (after answer' : List ℕ) : Type 0 where
   pub typed : type_at type 0 ≡ Is t
   pub sendable : Sendable (asked_in_words id flags payload t)
   pub fits : mark_behind fill (asked_in_words id flags payload t) ≤ length room.now

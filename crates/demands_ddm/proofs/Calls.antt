@@ -12,7 +12,7 @@ use prog.Routine.{Routine}
 use types.Logic.{Logic}
 use contract.Lifetimes.{Lfts}
 use contract.Monad.{Fun, fact, fact_mono}
-use denote.Ref.{MutBor, at_last}
+use denote.Ref.{Bor, MutBor, at_last}
 use Rattle.answer.specs.declared.Laid.{Laid}
 use Rattle.layouts.specs.DdmLayout.{Ddm, Streamed}
 use Rattle.ddm_length.specs.Markers.{has_markers, unmarked, Marked}
@@ -45,7 +45,7 @@ use Rattle.demands_ddm.proofs.Stripping.{Stripped, strips, strips_marked}
 
 -- ---- built, and read
 
-module _ (κs κt : Lfts 2) (cp : ℕ) (d room : MutBor (List ℕ)) (laid : Laid) (after : List ℕ) (small : cp < 65536) (few : length d.now < 2 ^ 63) (h : length (built cp d.now) ≤ length room.now)
+module _ (κs κt : Lfts 2) (cp : ℕ) (d : Bor (List ℕ)) (room : MutBor (List ℕ)) (laid : Laid) (after : List ℕ) (small : cp < 65536) (few : length d.now < 2 ^ 63) (h : length (built cp d.now) ≤ length room.now)
     (p : build_ddm_object.Post κs (cp, (d, (room, tt))) laid (cp, (d, (at_last room after, tt)))) where
   -- `build_ddm_object` lays the object down, with the volume's layout
   pub built_first : LaidFirst (built cp d.now) room.now laid after
@@ -55,7 +55,7 @@ module _ (κs κt : Lfts 2) (cp : ℕ) (d room : MutBor (List ℕ)) (laid : Laid
   built_layout = laid_layout cp d.now room.now small few laid after built_first
 
   -- `DdmObject::parse` reads it back, from the room or from the bytes answered
-  module _ (bytes work : MutBor (List ℕ)) (r : ObjectFound) (workAfter : List ℕ) (q : parse.Post κt (bytes, (work, tt)) r (bytes, (at_last work workAfter, tt))) where
+  module _ (bytes : Bor (List ℕ)) (work : MutBor (List ℕ)) (r : ObjectFound) (workAfter : List ℕ) (q : parse.Post κt (bytes, (work, tt)) r (bytes, (at_last work workAfter, tt))) where
     pub room_parsed : bytes.now ≡ after → ReadsAs cp d.now after 0 (built_header d.now) work.now r workAfter
     room_parsed e =
         laid_parsed cp d.now room.now small few laid after built_first work.now r workAfter (subst (λ (s : List ℕ). ObjectAt s 0 work.now r workAfter) e q)
@@ -66,7 +66,7 @@ module _ (κs κt : Lfts 2) (cp : ℕ) (d room : MutBor (List ℕ)) (laid : Laid
 
 -- ---- the same of `DdmBuilder::build`, whose data are the filled part
 
-module _ (κs : Lfts 2) (b : DdmBuilder) (content room : MutBor (List ℕ)) (laid : Laid) (after : List ℕ) (f : b.fill ≤ length content.now) (h : length (builder_object b content.now) ≤ length room.now)
+module _ (κs : Lfts 2) (b : DdmBuilder) (content : Bor (List ℕ)) (room : MutBor (List ℕ)) (laid : Laid) (after : List ℕ) (f : b.fill ≤ length content.now) (h : length (builder_object b content.now) ≤ length room.now)
     (p : build.Post κs (b, (content, (room, tt))) laid (b, (content, (at_last room after, tt)))) where
   pub builder_first : LaidFirst (builder_object b content.now) room.now laid after
   builder_first = builds_first b content.now room.now laid after f h p
@@ -75,7 +75,7 @@ module _ (κs : Lfts 2) (b : DdmBuilder) (content room : MutBor (List ℕ)) (lai
     pub builder_layout : Ddm b.code_point (take b.fill content.now) (take (length (builder_object b content.now)) after)
     builder_layout = laid_layout b.code_point (take b.fill content.now) room.now small few laid after builder_first
 
-    pub builder_parsed : (κt : Lfts 2) (bytes work : MutBor (List ℕ)) (r : ObjectFound) (workAfter : List ℕ) → parse.Post κt (bytes, (work, tt)) r (bytes, (at_last work workAfter, tt)) → bytes.now ≡ after
+    pub builder_parsed : (κt : Lfts 2) (bytes : Bor (List ℕ)) (work : MutBor (List ℕ)) (r : ObjectFound) (workAfter : List ℕ) → parse.Post κt (bytes, (work, tt)) r (bytes, (at_last work workAfter, tt)) → bytes.now ≡ after
         → ReadsAs b.code_point (take b.fill content.now) after 0 (built_header (take b.fill content.now)) work.now r workAfter
     builder_parsed κt bytes work r workAfter q e =
         laid_parsed b.code_point (take b.fill content.now) room.now small few laid after builder_first work.now r workAfter
@@ -83,13 +83,13 @@ module _ (κs : Lfts 2) (b : DdmBuilder) (content room : MutBor (List ℕ)) (lai
 
 -- ---- read, where bytes have the layout
 
-pub layout_parsed : (κs : Lfts 2) (cp : ℕ) (d p rest : List ℕ) (bytes work : MutBor (List ℕ)) (r : ObjectFound) (workAfter : List ℕ) → Ddm cp d p → cp < 65536 → length d < 2 ^ 63
+pub layout_parsed : (κs : Lfts 2) (cp : ℕ) (d p rest : List ℕ) (bytes : Bor (List ℕ)) (work : MutBor (List ℕ)) (r : ObjectFound) (workAfter : List ℕ) → Ddm cp d p → cp < 65536 → length d < 2 ^ 63
     → (Streamed p → rest ≡ []) → (Streamed p → has_markers d ≡ false) → bytes.now ≡ p ++ rest → parse.Post κs (bytes, (work, tt)) r (bytes, (at_last work workAfter, tt))
     → ReadsAs cp d bytes.now 0 (length p - length d) work.now r workAfter
 layout_parsed κs cp d p rest bytes work r workAfter w small few a m e q = layout_read cp d p w small few bytes.now rest 0 e a m work.now r workAfter q
 
 -- `object_data` hands back the data that were built, whatever the work area holds
-pub data_back : (κs : Lfts 1) (cp at : ℕ) (d rest : List ℕ) (run work r : MutBor (List ℕ)) → cp < 65536 → length d < 2 ^ 63 → drop at run.now ≡ built cp d ++ rest
+pub data_back : (κs : Lfts 1) (cp at : ℕ) (d rest : List ℕ) (run : Bor (List ℕ)) (work : MutBor (List ℕ)) (r : Bor (List ℕ)) → cp < 65536 → length d < 2 ^ 63 → drop at run.now ≡ built cp d ++ rest
     → object_data.Post κs (run, (at, (work, tt))) r (run, (at, (work, tt))) → r.now ≡ d
 data_back κs cp at d rest run work r small few e q =
     let s : List ℕ = run.now in
@@ -100,7 +100,7 @@ data_back κs cp at d rest run work r small few e q =
 
 -- ---- found
 
-module _ (κs : Lfts 2) (cp : ℕ) (bytes work : MutBor (List ℕ)) (r : ObjectFound) (workAfter : List ℕ)
+module _ (κs : Lfts 2) (cp : ℕ) (bytes : Bor (List ℕ)) (work : MutBor (List ℕ)) (r : ObjectFound) (workAfter : List ℕ)
     (q : find_param.Post κs (bytes, (cp, (work, tt))) r (bytes, (cp, (at_last work workAfter, tt)))) where
   pub param_found : (d : List ℕ) (before rest : List (ℕ × List ℕ)) → let l = before ++ ((cp, d) ∷ rest) in Fit l → Lacks cp before → bytes.now ≡ built_all l
       → ReadsAs cp d (built_all l) (length (built_all before)) (built_header d) work.now r workAfter
@@ -111,7 +111,7 @@ module _ (κs : Lfts 2) (cp : ℕ) (bytes work : MutBor (List ℕ)) (r : ObjectF
 
 -- ---- markers
 
-module _ (κs : Lfts 2) (d work : MutBor (List ℕ)) (r : Laid) (after : List ℕ) (q : strip.Post κs (d, (work, tt)) r (d, (at_last work after, tt))) where
+module _ (κs : Lfts 2) (d : Bor (List ℕ)) (work : MutBor (List ℕ)) (r : Laid) (after : List ℕ) (q : strip.Post κs (d, (work, tt)) r (d, (at_last work after, tt))) where
   pub stripped : length (unmarked d.now) ≤ length work.now → Stripped d.now work.now r after
   stripped h = strips d.now work.now r after h q
 
@@ -120,7 +120,7 @@ module _ (κs : Lfts 2) (d work : MutBor (List ℕ)) (r : Laid) (after : List �
 
 -- ---- listed
 
-module _ {M : Type 1} {𝓤 : Ura M} (𝓛 : Logic 𝓤) (mem : Memory → SProp 𝓤) (routines : Routine → Fun 𝓤) (κs : Lfts 3) (bytes work : MutBor (List ℕ)) (row : MutBor (List DdmObject)) (r : ObjectsFound) (workAfter : List ℕ) (rowAfter : List DdmObject)
+module _ {M : Type 1} {𝓤 : Ura M} (𝓛 : Logic 𝓤) (mem : Memory → SProp 𝓤) (routines : Routine → Fun 𝓤) (κs : Lfts 3) (bytes : Bor (List ℕ)) (work : MutBor (List ℕ)) (row : MutBor (List DdmObject)) (r : ObjectsFound) (workAfter : List ℕ) (rowAfter : List DdmObject)
     (l : List (ℕ × List ℕ)) (g : Fit l) (h : length l ≤ length row.now) (e : bytes.now ≡ built_all l) where
   pub parameters_back : ent 𝓤 ((parameters.clauses 𝓛 mem routines κs (bytes, (work, (row, tt)))).ensures tt r (bytes, (at_last work workAfter, (at_last row rowAfter, tt))))
       (fact 𝓤 (ListsAs l (built_all l) work.now row.now r workAfter rowAfter))

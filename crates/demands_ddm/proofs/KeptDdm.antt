@@ -15,7 +15,7 @@ use prog.Routine.{Routine}
 use types.Logic.{Logic}
 use contract.Lifetimes.{Lfts}
 use contract.Monad.{Fun, fact, fact_mono}
-use denote.Ref.{MutBor, at_last}
+use denote.Ref.{Bor, MutBor, at_last}
 use Rattle.wire.specs.Bytes.{two, last, splice}
 use Rattle.answer.specs.declared.Refused.{Refused}
 use Rattle.answer.specs.declared.Laid.{Laid}
@@ -98,7 +98,7 @@ layout_fixes = fixes_object
 
 -- Bytes with the layout, anywhere in a run, are read as it says: by `object_at`, and by `lattrugone_object`.
 module _ (cp : ℕ) (d p behind : List ℕ) (fits : FitsWidth cp d) (laid_out : Ddm cp d p) (alone : Streamed p → behind ≡ []) (unmarked : Streamed p → has_markers d ≡ false)
-    (run : MutBor (List ℕ)) (at : ℕ) (there : drop at run.now ≡ p ++ behind) (work : MutBor (List ℕ)) (workAfter : List ℕ) where
+    (run : Bor (List ℕ)) (at : ℕ) (there : drop at run.now ≡ p ++ behind) (work : MutBor (List ℕ)) (workAfter : List ℕ) where
   pub layout_read_by_call : (κs : Lfts 2) (r : ObjectFound) → object_at.Post κs (run, (at, (work, tt))) r (run, (at, (at_last work workAfter, tt)))
       → ReadsAs cp d run.now at (length p - length d) work.now r workAfter
   layout_read_by_call κs r q = layout_read cp d p laid_out fits.0 fits.1 run.now behind at there alone unmarked work.now r workAfter q
@@ -111,8 +111,8 @@ module _ (cp : ℕ) (d p behind : List ℕ) (fits : FitsWidth cp d) (laid_out : 
 
 -- ---- Demand 2, "gives back": an object laid into a room that has room for it, and read from wherever these bytes then stand
 
-module _ (cp : ℕ) (d room : MutBor (List ℕ)) (after : List ℕ) (fits : FitsWidth cp d.now) (enough : length (built cp d.now) ≤ length room.now)
-    (run : MutBor (List ℕ)) (at : ℕ) (there : drop at run.now ≡ after) (work : MutBor (List ℕ)) (workAfter : List ℕ) where
+module _ (cp : ℕ) (d : Bor (List ℕ)) (room : MutBor (List ℕ)) (after : List ℕ) (fits : FitsWidth cp d.now) (enough : length (built cp d.now) ≤ length room.now)
+    (run : Bor (List ℕ)) (at : ℕ) (there : drop at run.now ≡ after) (work : MutBor (List ℕ)) (workAfter : List ℕ) where
   -- by `build_ddm_object`, then `object_at`
   pub built_and_read : (κs κt : Lfts 2) (laid : Laid) (r : ObjectFound)
       → build_ddm_object.Post κs (cp, (d, (room, tt))) laid (cp, (d, (at_last room after, tt)))
@@ -130,8 +130,8 @@ module _ (cp : ℕ) (d room : MutBor (List ℕ)) (after : List ℕ) (fits : Fits
       laid_back_said cp d.now room.now after fits enough run.now at there words.now n said h p work.now words'.now r workAfter said' h' q
 
 -- The same of a builder, whose data are the filled part of `content`.
-module _ (cp fill : ℕ) (content room : MutBor (List ℕ)) (after : List ℕ) (inside : fill ≤ length content.now) (fits : FitsWidth cp (take fill content.now))
-    (enough : length (built cp (take fill content.now)) ≤ length room.now) (run : MutBor (List ℕ)) (at : ℕ) (there : drop at run.now ≡ after) (work : MutBor (List ℕ)) (workAfter : List ℕ) where
+module _ (cp fill : ℕ) (content : Bor (List ℕ)) (room : MutBor (List ℕ)) (after : List ℕ) (inside : fill ≤ length content.now) (fits : FitsWidth cp (take fill content.now))
+    (enough : length (built cp (take fill content.now)) ≤ length room.now) (run : Bor (List ℕ)) (at : ℕ) (there : drop at run.now ≡ after) (work : MutBor (List ℕ)) (workAfter : List ℕ) where
   abbrev d : List ℕ
   d = take fill content.now
 
@@ -153,7 +153,7 @@ module _ (cp fill : ℕ) (content room : MutBor (List ℕ)) (after : List ℕ) (
 
 -- The data themselves: `object_at`, and then `object_data` over the work area as that left it, hands back the data of the object that
 -- was given, in the run or in the work area, and nothing of one that was refused.
-pub data_are_handed_back : (κs : Lfts 2) (κt : Lfts 1) (run work lent data-part : MutBor (List ℕ)) (at : ℕ) (r : ObjectFound) (workAfter : List ℕ)
+pub data_are_handed_back : (κs : Lfts 2) (κt : Lfts 1) (run : Bor (List ℕ)) (work : MutBor (List ℕ)) (lent data-part : Bor (List ℕ)) (at : ℕ) (r : ObjectFound) (workAfter : List ℕ)
     → object_at.Post κs (run, (at, (work, tt))) r (run, (at, (at_last work workAfter, tt))) → lent.now ≡ workAfter
     → object_data.Post κt (run, (at, (lent, tt))) data-part (run, (at, (lent, tt)))
     → ((o : DdmObject) → r ≡ Gives o → (x : Object) × (parsed (drop at run.now) at ≡ object x) × (data-part.now ≡ x.content)) × ((why : Refused) → r ≡ NotGiven why → data-part.now ≡ [])
@@ -162,7 +162,7 @@ data_are_handed_back κs κt run work lent data-part at r workAfter p e q =
 
 -- ---- objects or parameters built one behind the other are listed, all of them and nothing else
 
-module _ (l : List (ℕ × List ℕ)) (fit : Fit l) (bytes : MutBor (List ℕ)) (built-so : bytes.now ≡ built_all l) (work : MutBor (List ℕ)) (workAfter : List ℕ) where
+module _ (l : List (ℕ × List ℕ)) (fit : Fit l) (bytes : Bor (List ℕ)) (built-so : bytes.now ≡ built_all l) (work : MutBor (List ℕ)) (workAfter : List ℕ) where
   module _ {M : Type 1} {𝓤 : Ura M} (𝓛 : Logic 𝓤) (mem : Memory → SProp 𝓤) (routines : Routine → Fun 𝓤) (κs : Lfts 3) (row : MutBor (List DdmObject)) (rowAfter : List DdmObject)
       (enough : length l ≤ length row.now) (r : ObjectsFound) where
     -- by `parameters`
@@ -192,7 +192,7 @@ module _ (l : List (ℕ × List ℕ)) (fit : Fit l) (bytes : MutBor (List ℕ)) 
 
 -- ---- "`find_param` gives the first", and 11 where there is none
 
-module _ (cp : ℕ) (bytes work : MutBor (List ℕ)) (workAfter : List ℕ) where
+module _ (cp : ℕ) (bytes : Bor (List ℕ)) (work : MutBor (List ℕ)) (workAfter : List ℕ) where
   -- by `find_param`
   module _ (κs : Lfts 2) (r : ObjectFound) (q : find_param.Post κs (bytes, (cp, (work, tt))) r (bytes, (cp, (at_last work workAfter, tt)))) where
     pub first_is_found : (d : List ℕ) (before rest : List (ℕ × List ℕ)) → let l = before ++ ((cp, d) ∷ rest) in Fit l → Lacks cp before → bytes.now ≡ built_all l
@@ -216,7 +216,7 @@ module _ (cp : ℕ) (bytes work : MutBor (List ℕ)) (workAfter : List ℕ) wher
 
 -- ---- an addition for which there is room behind the fill mark is made there, and all else stays
 
-module _ (cp fill c : ℕ) (d room : MutBor (List ℕ)) (after : List ℕ) (enough : fill + length (built c d.now) ≤ length room.now) where
+module _ (cp fill c : ℕ) (d : Bor (List ℕ)) (room : MutBor (List ℕ)) (after : List ℕ) (enough : fill + length (built c d.now) ≤ length room.now) where
   -- by `add_code_point`
   pub addition_is_made : (κs : Lfts 2) (r : Added) → add_code_point.Post κs (builder_of cp fill, (c, (d, (room, tt)))) r (builder_of cp fill, (c, (d, (at_last room after, tt))))
       → (r ≡ Done (builder_of cp (fill + length (built c d.now)))) × (after ≡ splice room.now fill (built c d.now))
@@ -230,8 +230,8 @@ module _ (cp fill c : ℕ) (d room : MutBor (List ℕ)) (after : List ℕ) (enou
 
 -- ---- a request: parameters added one after the other, each answered 0, the object built, read from wherever it stands, and its parameters listed
 
-module _ (cp : ℕ) (l : List (ℕ × List ℕ)) (fits : FitsWidth cp (built_all l)) (fit : Fit l) (start : List ℕ) (content room : MutBor (List ℕ)) (after : List ℕ)
-    (enough : length (built cp (built_all l)) ≤ length room.now) (run : MutBor (List ℕ)) (at : ℕ) (there : drop at run.now ≡ after) (work : MutBor (List ℕ)) (workAfter : List ℕ) where
+module _ (cp : ℕ) (l : List (ℕ × List ℕ)) (fits : FitsWidth cp (built_all l)) (fit : Fit l) (start : List ℕ) (content : Bor (List ℕ)) (room : MutBor (List ℕ)) (after : List ℕ)
+    (enough : length (built cp (built_all l)) ≤ length room.now) (run : Bor (List ℕ)) (at : ℕ) (there : drop at run.now ≡ after) (work : MutBor (List ℕ)) (workAfter : List ℕ) where
   -- by `add_code_point`, `add_u16` and `add_u32`, `build`, `object_at` and `parameters`
   module _ (b : DdmBuilder) (added : ByCalls cp start l b content.now) (κs κt : Lfts 2) (laid : Laid) (r : ObjectFound)
       (p : build.Post κs (b, (content, (room, tt))) laid (b, (content, (at_last room after, tt))))
@@ -241,7 +241,7 @@ module _ (cp : ℕ) (l : List (ℕ × List ℕ)) (fits : FitsWidth cp (built_all
     request_is_read =
         request_back cp l fits fit b content.now (calls_filled added) room.now after enough run.now at there laid p work.now r workAfter q
 
-    pub request_is_listed : {M : Type 1} {𝓤 : Ura M} (𝓛 : Logic 𝓤) (mem : Memory → SProp 𝓤) (routines : Routine → Fun 𝓤) (κu : Lfts 3) (bytes work' : MutBor (List ℕ)) (row : MutBor (List DdmObject))
+    pub request_is_listed : {M : Type 1} {𝓤 : Ura M} (𝓛 : Logic 𝓤) (mem : Memory → SProp 𝓤) (routines : Routine → Fun 𝓤) (κu : Lfts 3) (bytes : Bor (List ℕ)) (work' : MutBor (List ℕ)) (row : MutBor (List DdmObject))
         (o : DdmObject) (x : ObjectsFound) (workAfter' : List ℕ) (rowAfter : List DdmObject) → r ≡ Gives o → bytes.now ≡ data_of run.now o → length l ≤ length row.now
         → ent 𝓤 ((parameters.clauses 𝓛 mem routines κu (bytes, (work', (row, tt)))).ensures tt x (bytes, (at_last work' workAfter', (at_last row rowAfter, tt))))
         (fact 𝓤 (ListsAs l (data_of run.now o) work'.now row.now x workAfter' rowAfter))
@@ -260,7 +260,7 @@ module _ (cp : ℕ) (l : List (ℕ × List ℕ)) (fits : FitsWidth cp (built_all
     request_is_read_in_words =
         request_back_said cp l fits fit (builder_of cp fill) content.now (words_filled cp added) room.now after enough run.now at there words.now n said eight p work.now words'.now r workAfter said' eight' q
 
-    pub request_is_listed_in_words : (κu : Lfts 4) (bytes work'' row words'' : MutBor (List ℕ)) (m : ℕ) (workAfter'' rowAfter said'' : List ℕ)
+    pub request_is_listed_in_words : (κu : Lfts 4) (bytes : Bor (List ℕ)) (work'' row words'' : MutBor (List ℕ)) (m : ℕ) (workAfter'' rowAfter said'' : List ℕ)
         → bytes.now ≡ take (get_or said' 5 0) (drop (get_or said' 4 0) run.now) → length l * object_len ≤ length row.now → answer_len ≤ length words''.now
         → lattrugone_parameters.Post κu (bytes, (work'', (row, (words'', tt)))) m (bytes, (at_last work'' workAfter'', (at_last row rowAfter, (at_last words'' said'', tt))))
         → AnswersList l bytes.now work''.now row.now words''.now m workAfter'' rowAfter said''
@@ -270,7 +270,7 @@ module _ (cp : ℕ) (l : List (ℕ × List ℕ)) (fits : FitsWidth cp (built_all
 
 -- ---- a number put in as a parameter's two or four bytes comes back
 
-module _ (n : ℕ) (bytes : MutBor (List ℕ)) where
+module _ (n : ℕ) (bytes : Bor (List ℕ)) where
   -- by `as_u16`, `as_u32`
   pub u16_comes_back : (κs : Lfts 1) (r : U16Found) → n < 65536 → bytes.now ≡ two n → as_u16.Post κs (bytes, tt) r (bytes, tt) → r ≡ U16 n
   u16_comes_back κs r small e q = q ∙ ap u16_of e ∙ u16_back n small
@@ -288,7 +288,7 @@ module _ (n : ℕ) (bytes : MutBor (List ℕ)) where
 
 -- ---- markers: 32,757 bytes, and then a marker before each 32,764 or what is left; they come out, and all else stays
 
-module _ (a s m : List ℕ) (first : length a ≡ 32757) (marked : Marked s m) (bytes room : MutBor (List ℕ)) (with-markers : bytes.now ≡ a ++ s) (enough : length (a ++ m) ≤ length room.now) (after : List ℕ) where
+module _ (a s m : List ℕ) (first : length a ≡ 32757) (marked : Marked s m) (bytes : Bor (List ℕ)) (room : MutBor (List ℕ)) (with-markers : bytes.now ≡ a ++ s) (enough : length (a ++ m) ≤ length room.now) (after : List ℕ) where
   -- by `strip_extended_ddm_continuation_markers`
   pub markers_come_out : (κs : Lfts 2) (r : Laid) → strip.Post κs (bytes, (room, tt)) r (bytes, (at_last room after, tt)) → LaidFirst (a ++ m) room.now r after
   markers_come_out κs r q = marks_stripped κs bytes room r after q a s m first marked enough with-markers

@@ -12,7 +12,7 @@ use prog.Routine.{Routine}
 use types.Logic.{Logic}
 use contract.Lifetimes.{Lfts}
 use contract.Monad.{Fun, fact, fact_mono}
-use denote.Ref.{MutBor, at_last}
+use denote.Ref.{Bor, MutBor, at_last}
 use Rattle.wire.specs.Bytes.{splice}
 use Rattle.answer.specs.declared.Laid.TheVariants.{Bytes}
 use Rattle.ddm_builder.specs.Built.{built, built_all, Fit}
@@ -60,7 +60,7 @@ module _ (l : List (ℕ × List ℕ)) (fit : Fit l) where
       (λ at x w r e k. fact_mono 𝓤 _ _ (λ y. y ∙ ap₂ param_step_at e k ∙ x)) (built_walked l fit)
 
   -- by `lattrugone_param_step`: the next place stands in word 1
-  pub walk_gives_back_in_words : (κs : Lfts 2) (bytes : MutBor (List ℕ)) → bytes.now ≡ built_all l
+  pub walk_gives_back_in_words : (κs : Lfts 2) (bytes : Bor (List ℕ)) → bytes.now ≡ built_all l
       → WalkGives (λ at cp d next. (words : MutBor (List ℕ)) (r : ℕ) (said : List ℕ) → answer_len ≤ length words.now
       → lattrugone_param_step.Post κs (bytes, (at, (words, tt))) r (bytes, (at, (at_last words said, tt)))
       → AnswersObject cp d (built_all l) (length (built cp d)) [] words.now r [] said × (get_or said 1 0 ≡ next))
@@ -87,7 +87,7 @@ module _ (start : List ℕ) (l : List (ℕ × List ℕ)) (enough : length (built
 
 -- Two lists, added to two builders, each parameter answered 0: what they leave are equal bytes where the lists are equal, and nowhere
 -- else, whatever the builders and the rooms. Data are the filled part of the room that they were added to.
-module _ (l m : List (ℕ × List ℕ)) (fit : Fit l) (fit' : Fit m) (cp cp' : ℕ) (start start' : List ℕ) (content content' : MutBor (List ℕ)) where
+module _ (l m : List (ℕ × List ℕ)) (fit : Fit l) (fit' : Fit m) (cp cp' : ℕ) (start start' : List ℕ) (content content' : Bor (List ℕ)) where
   -- by `add_code_point`, `add_u16` and `add_u32`
   module _ (b b' : DdmBuilder) (added : ByCalls cp start l b content.now) (added' : ByCalls cp' start' m b' content'.now) where
     pub equal_data : (take b.fill content.now ≡ take b'.fill content'.now) ↔ (l ≡ m)
