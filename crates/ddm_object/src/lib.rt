@@ -12,7 +12,7 @@ use answer::{Refusal, Refused};
 
 // An object or parameter as read: its code point, where its data lies, and how many bytes it takes. The data is a part of the
 // object's own run, or of the work area once markers came out.
-#[derive(Drop)]
+#[derive(Clone, Copy)]
 pub struct DdmObject {
     pub code_point: u16,
     pub in_work: bool,
