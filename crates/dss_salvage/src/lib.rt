@@ -1,4 +1,6 @@
 // The salvage reading, one step of its walk and its measure: document 01, "Salvage reading". Touches nothing.
+#![tactic(auto)]
+
 ghost use Rattle.std.specs.Prelude.{◌≡◌};
 ghost use Rattle.dss_frame.specs.Salvage.{salvaged};
 ghost use Rattle.dss_salvage.specs.inner.SalvageSteps.{over_at, step_at};
@@ -11,7 +13,7 @@ use dss_measure::{FrameMeasure, Measured, Walked};
 
 // What an entry is: a frame's record, or a refusal, without payload, and where the refused frame stood: its first byte and the
 // byte after its last, equal where the walk ends at a length below six.
-#[derive(Drop)]
+#[derive(Clone, Copy)]
 pub enum Entry {
     Frame(DssFrame),
     Refused {
@@ -22,14 +24,14 @@ pub enum Entry {
 }
 
 // One record of the lent row.
-#[derive(Drop)]
+#[derive(Clone, Copy)]
 pub struct SalvageEntry {
     pub entry: Entry,
 }
 
 // What a salvage reading comes to: how many entries stand in the row and how many bytes in the room, and the tail's place.
 // The one refusal is 9.
-#[derive(Drop)]
+#[derive(Clone, Copy)]
 pub enum Salvaged {
     Done {
         count: usize,
@@ -41,7 +43,7 @@ pub enum Salvaged {
 
 // One step of the walk: a frame; or a refused one, and where it is stepped over to; or a refused one that the walk ends at, its
 // length below 6; or the walk's end, with no entry.
-#[derive(Drop)]
+#[derive(Clone, Copy)]
 pub enum Step {
     Frame(FrameMeasure),
     Over(Refused, usize),
@@ -50,7 +52,7 @@ pub enum Step {
 }
 
 // A salvage reading before anything is taken: how many entries, how many bytes their payloads have, and the tail's place.
-#[derive(Drop)]
+#[derive(Clone, Copy)]
 pub struct Salvaging {
     pub count: usize,
     pub bytes: usize,

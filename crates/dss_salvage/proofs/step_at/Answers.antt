@@ -1,0 +1,11 @@
+-- `dss_salvage::step_at` meets its contract: a measure is a frame's step, and a refusal is what `step_over` ensures.
+use mathlib.Core.Path.{sym, ◌∙◌}
+use Rattle.dss_salvage.proofs.SalvageStepping.{step_frame, step_refused}
+use Rattle.dss_salvage.proofs.step_at.Goals as goal
+
+pub returns-in-Frame : goal.returns-in-Frame
+returns-in-Frame c = sym (step_frame _ _ _ (sym c.in-Frame.ensures))
+
+pub returns-in-Refused : goal.returns-in-Refused
+returns-in-Refused c =
+    c.step_over.ensures ∙ sym (step_refused _ _ _ (sym c.in-Refused.ensures))
