@@ -1,5 +1,7 @@
 // Lists of objects and parameters for C and Rust: document 01, module 4, what reads. A lent row of words has eight for each
 // record, as gateway_object lays down one object; words behind the last whole record are no part of it.
+#![tactic(auto)]
+
 ghost use Rattle.std.specs.Prelude.{◌≡◌, ◌*◌, ◌≤◌, length};
 ghost use Rattle.wire.specs.Bytes.{splice};
 ghost use Rattle.ddm_rows.specs.inner.RowsFilled.{recs_from};
