@@ -1,4 +1,6 @@
 // The entries of a salvage reading, laid into a lent row: document 01, "Salvage reading", "Entries are listed in order, one record each".
+#![tactic(auto)]
+
 ghost use Rattle.std.specs.Prelude.{◌≡◌, ◌≤◌, length};
 ghost use Rattle.wire.specs.Bytes.{splice};
 ghost use Rattle.dss_frame.specs.inner.RowStart.{starts_at};
@@ -8,7 +10,7 @@ use dss_frame::RowPlace;
 use dss_salvage::{Entry, SalvageEntry, Step};
 
 // What stands at a place: an entry's record and the place behind it, or none.
-#[derive(Drop)]
+#[derive(Clone, Copy)]
 pub enum RecordFound {
     One(SalvageEntry, RowPlace),
     End,
