@@ -1,12 +1,11 @@
 -- Calls of the builder with what they answer and leave: the contracts aren't empty. Each is the contract's record at numbers.
-use Prim.Native.Nat.{ℕ}
 use mathlib.Core.Path.{refl}
-use mathlib.Core.List.{List, [], ◌∷◌, ◌++◌}
+use mathlib.Core.List.{[], ◌∷◌, ◌++◌}
 use lib.ListN.{replicate}
 use Rattle.wire.specs.Bytes.{last, splice, laid}
 use Rattle.ddm_builder.specs.Built.{length_bytes, built}
 use Rattle.ddm_builder.specs.Builder.{parameter16, parameter32}
-use Rattle.gateway_words.specs.AnswerWords.{Answered, LaysInWords}
+use Rattle.gateway_words.specs.AnswerWords.{LaysInWords}
 use Rattle.gateway_builder.specs.BuilderWords.{builder_of, adding, Appends, Makes}
 
 -- ---- adding

@@ -1,5 +1,7 @@
 // Building DDM objects for C and Rust: document 01, module 4. Slices, numbers and words go as in the crate gateway_head. A builder
 // goes in as its fill mark, and where its object is built also as the object's code point: adding doesn't look at that one.
+#![tactic(auto)]
+
 ghost use Rattle.std.specs.Prelude.{◌≡◌};
 ghost use Rattle.ddm_builder.specs.Built.{built};
 ghost use Rattle.ddm_builder.specs.Builder.{parameter16, parameter32, builder_total};
