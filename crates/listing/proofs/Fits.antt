@@ -3,11 +3,11 @@ use Prim.Native.Nat.{ℕ, zero, suc, ◌+◌, ◌*◌, ◌-◌, ◌≤◌}
 use native.Mathlib.Omega.{arith}
 use mathlib.Core.Path.{◌≡◌, refl, ap, ◌∙◌}
 use mathlib.Core.List.{List, ◌++◌}
-use lib.Dec.{ltb, leb, eqb}
+use lib.Dec.{ltb, leb}
 use lib.ListN.{length, take, length-append}
 use borrow.Author.Tests.{ltb-false, leb-true, leb-false, le-leb}
 use contract.Lifetimes.{Lfts}
-use denote.Ref.{MutBor, at_last}
+use denote.Ref.{Bor, MutBor, at_last}
 use Rattle.wire.specs.Bytes.{be16, splice, Octets}
 use Rattle.wire.proofs.WireLaws.{by, pick_by, pick_yes}
 use Rattle.wire.proofs.Splicing.{laid_fits, splice_written}
@@ -148,6 +148,6 @@ module _ (rules : Rules) (s room : List ℕ) (o : Octets s) (large : length room
       ∙ splice_written room 0 (list_text rules s) (omega arith)
 
 -- over the contract itself
-pub list_never_short : (κs : Lfts 2) (rules : Rules) (run room : MutBor (List ℕ)) (r : Laid) (l : List ℕ) → Octets run.now → length room.now ≡ 720000
+pub list_never_short : (κs : Lfts 2) (rules : Rules) (run : Bor (List ℕ)) (room : MutBor (List ℕ)) (r : Laid) (l : List ℕ) → Octets run.now → length room.now ≡ 720000
     → list.Post κs (rules, (run, (room, tt))) r (rules, (run, (at_last room l, tt))) → r ≡ Bytes (length (list_text rules run.now))
 list_never_short κs rules run room r l o h p = never_short rules run.now room.now o h p

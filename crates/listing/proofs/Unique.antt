@@ -19,7 +19,7 @@ use Rattle.listing.proofs.salvage_list.Reads as salvage_list
 lays_one : {text room : List ℕ} (r r' : Laid) (l l' : List ℕ) → Lays text room r l → Lays text room r' l' → (r ≡ r') × (l ≡ l')
 lays_one r r' l l' p q = (p.answers ∙ sym q.answers, p.room_is ∙ sym q.room_is)
 
-module _ (κs : Lfts 2) (run room : Bor (List ℕ)) where
+module _ (κs : Lfts 2) (run : Bor (List ℕ)) (room : MutBor (List ℕ)) where
   -- the answer and the room
   abbrev answer_of : List ℕ → Laid
   answer_of t = laid_at_start 0 (length room.now) (length t)

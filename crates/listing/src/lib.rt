@@ -1,4 +1,6 @@
 // The text of `framelist` and `salvagelist`: document 01, the last part of "Both sides of each edge".
+#![tactic(auto)]
+
 ghost use Rattle.answer.specs.Rooms.{Lays};
 ghost use Rattle.dss_frame.specs.declared.Rules;
 ghost use Rattle.text.specs.inner.Puts.{Puts};
