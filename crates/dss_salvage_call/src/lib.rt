@@ -1,4 +1,6 @@
 // The salvage reading's call: document 01, "Salvage reading".
+#![tactic(auto)]
+
 ghost use Rattle.std.specs.Prelude.{◌≡◌, ◌≤◌, length};
 ghost use Rattle.wire.specs.Bytes.{splice};
 ghost use Rattle.dss_salvage_call.specs.SalvageCall.{SalvagesRun, GathersEntries, entries_in};
