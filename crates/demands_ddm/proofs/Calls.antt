@@ -89,7 +89,7 @@ pub layout_parsed : (κs : Lfts 2) (cp : ℕ) (d p rest : List ℕ) (bytes : Bor
 layout_parsed κs cp d p rest bytes work r workAfter w small few a m e q = layout_read cp d p w small few bytes.now rest 0 e a m work.now r workAfter q
 
 -- `object_data` hands back the data that were built, whatever the work area holds
-pub data_back : (κs : Lfts 1) (cp at : ℕ) (d rest : List ℕ) (run : Bor (List ℕ)) (work : MutBor (List ℕ)) (r : Bor (List ℕ)) → cp < 65536 → length d < 2 ^ 63 → drop at run.now ≡ built cp d ++ rest
+pub data_back : (κs : Lfts 1) (cp at : ℕ) (d rest : List ℕ) (run work r : Bor (List ℕ)) → cp < 65536 → length d < 2 ^ 63 → drop at run.now ≡ built cp d ++ rest
     → object_data.Post κs (run, (at, (work, tt))) r (run, (at, (work, tt))) → r.now ≡ d
 data_back κs cp at d rest run work r small few e q =
     let s : List ℕ = run.now in

@@ -22,7 +22,7 @@ use Rattle.gateway_object_rows.specs.ListWords.{list_row}
 use Rattle.demands_ddm.specs.ReadingBack.{plain, InRoom, ReadsAs, built_header, Lacks}
 use Rattle.demands_ddm.specs.ReadingWords.{AnswersNumber, AnswersObject, AnswersList}
 use Rattle.demands_ddm.specs.Adding.{ByCalls, no_call, call, ByWords, no_word, word}
-use Rattle.demands_ddm.proofs.ListsAdded.{lent, zeros}
+use Rattle.demands_ddm.proofs.ListsAdded.{lent, lent_room, zeros}
 use Rattle.demands_ddm.proofs.KeptDdm.{layout_read_in_words, built_and_read_in_words, u16_comes_back_in_words, markers_come_out_in_words, request_is_read, request_is_read_in_words, request_is_listed_in_words, first_is_found_in_words}
 
 pub params : List (ℕ × List ℕ)
@@ -56,72 +56,72 @@ params_fit = ((omega arith, omega arith, (omega arith, omega arith, tt)), refl, 
 
 module _ (κ₂ : Lfts 2) (κ₃ : Lfts 3) (κ₄ : Lfts 4) where
   added_in_words : ByWords (replicate 10 9) params 9 both
-  unfolding lent zeros params one both built length_bytes last laid splice
+  unfolding lent lent_room zeros params one both built length_bytes last laid splice
   added_in_words =
       word
-      (word no_word κ₃ 0x2110 (lent (0xC1 ∷ [])) (lent (replicate 10 9)) (lent zeros) one (0 ∷ 0 ∷ 5 ∷ 0 ∷ 0 ∷ 0 ∷ 0 ∷ 0 ∷ []) refl (omega arith)
+      (word no_word κ₃ 0x2110 (lent (0xC1 ∷ [])) (lent_room (replicate 10 9)) (lent_room zeros) one (0 ∷ 0 ∷ 5 ∷ 0 ∷ 0 ∷ 0 ∷ 0 ∷ 0 ∷ []) refl (omega arith)
       (record { answers = record { number_is = refl; words_are = refl }; room_is = refl }))
-      κ₃ 0x112F (lent []) (lent one) (lent zeros) both (0 ∷ 0 ∷ 9 ∷ 0 ∷ 0 ∷ 0 ∷ 0 ∷ 0 ∷ []) refl (omega arith)
+      κ₃ 0x112F (lent []) (lent_room one) (lent_room zeros) both (0 ∷ 0 ∷ 9 ∷ 0 ∷ 0 ∷ 0 ∷ 0 ∷ 0 ∷ []) refl (omega arith)
       (record { answers = record { number_is = refl; words_are = refl }; room_is = refl })
 
   -- built, and read at place 2
   pub read_in_words : AnswersNumber 13 zeros 0 (0 ∷ 0 ∷ 13 ∷ 0 ∷ 0 ∷ 0 ∷ 0 ∷ 0 ∷ []) × InRoom 0x1041 (built_all params) (replicate 14 9) object
       × AnswersObject 0x1041 (built_all params) run 13 [] zeros 0 [] (0 ∷ 0 ∷ 0x1041 ∷ 0 ∷ 6 ∷ 9 ∷ 13 ∷ 0 ∷ [])
-  unfolding lent zeros params both object run built length_bytes last laid splice object_at parsed measured marshaled
+  unfolding lent lent_room zeros params both object run built length_bytes last laid splice object_at parsed measured marshaled
   read_in_words =
-      request_is_read_in_words 0x1041 params (omega arith, omega (arith, params_fit.2)) params_fit.0 (replicate 10 9) (lent both) (lent (replicate 14 9)) object (omega (arith, params_fit.3)) (lent run) 2 refl (lent []) [] 9
-      added_in_words κ₃ κ₃ (lent zeros) (lent zeros) 0 0 (0 ∷ 0 ∷ 13 ∷ 0 ∷ 0 ∷ 0 ∷ 0 ∷ 0 ∷ []) (0 ∷ 0 ∷ 0x1041 ∷ 0 ∷ 6 ∷ 9 ∷ 13 ∷ 0 ∷ []) (omega arith) (omega arith)
+      request_is_read_in_words 0x1041 params (omega arith, omega (arith, params_fit.2)) params_fit.0 (replicate 10 9) (lent both) (lent_room (replicate 14 9)) object (omega (arith, params_fit.3)) (lent run) 2 refl (lent_room []) [] 9
+      added_in_words κ₃ κ₃ (lent_room zeros) (lent_room zeros) 0 0 (0 ∷ 0 ∷ 13 ∷ 0 ∷ 0 ∷ 0 ∷ 0 ∷ 0 ∷ []) (0 ∷ 0 ∷ 0x1041 ∷ 0 ∷ 6 ∷ 9 ∷ 13 ∷ 0 ∷ []) (omega arith) (omega arith)
       (record { answers = record { number_is = refl; words_are = refl }; room_is = refl }) (record { answers = record { number_is = refl; words_are = refl }; room_is = refl })
 
   -- its parameters, from the nine bytes at place 6 that the words name
   pub listed_in_words : AnswersList params content [] (replicate 17 0) zeros 0 []
       (0 ∷ 0 ∷ 0x2110 ∷ 0 ∷ 4 ∷ 1 ∷ 5 ∷ 0 ∷ 0 ∷ 0 ∷ 0x112F ∷ 0 ∷ 9 ∷ 0 ∷ 4 ∷ 0 ∷ 0 ∷ []) (0 ∷ 0 ∷ 2 ∷ 0 ∷ 0 ∷ 0 ∷ 0 ∷ 0 ∷ [])
-  unfolding lent zeros params both object run content built length_bytes last laid splice object_at parsed measured marshaled parameters parameters_fuel object_records works_of list_row
+  unfolding lent lent_room zeros params both object run content built length_bytes last laid splice object_at parsed measured marshaled parameters parameters_fuel object_records works_of list_row
   listed_in_words =
-      request_is_listed_in_words 0x1041 params (omega arith, omega (arith, params_fit.2)) params_fit.0 (replicate 10 9) (lent both) (lent (replicate 14 9)) object (omega (arith, params_fit.3)) (lent run) 2 refl (lent []) [] 9
-      added_in_words κ₃ κ₃ (lent zeros) (lent zeros) 0 0 (0 ∷ 0 ∷ 13 ∷ 0 ∷ 0 ∷ 0 ∷ 0 ∷ 0 ∷ []) (0 ∷ 0 ∷ 0x1041 ∷ 0 ∷ 6 ∷ 9 ∷ 13 ∷ 0 ∷ []) (omega arith) (omega arith)
+      request_is_listed_in_words 0x1041 params (omega arith, omega (arith, params_fit.2)) params_fit.0 (replicate 10 9) (lent both) (lent_room (replicate 14 9)) object (omega (arith, params_fit.3)) (lent run) 2 refl (lent_room []) [] 9
+      added_in_words κ₃ κ₃ (lent_room zeros) (lent_room zeros) 0 0 (0 ∷ 0 ∷ 13 ∷ 0 ∷ 0 ∷ 0 ∷ 0 ∷ 0 ∷ []) (0 ∷ 0 ∷ 0x1041 ∷ 0 ∷ 6 ∷ 9 ∷ 13 ∷ 0 ∷ []) (omega arith) (omega arith)
       (record { answers = record { number_is = refl; words_are = refl }; room_is = refl }) (record { answers = record { number_is = refl; words_are = refl }; room_is = refl })
-      κ₄ (lent content) (lent []) (lent (replicate 17 0)) (lent zeros) 0 [] _ (0 ∷ 0 ∷ 2 ∷ 0 ∷ 0 ∷ 0 ∷ 0 ∷ 0 ∷ []) refl (omega arith) (omega arith)
+      κ₄ (lent content) (lent_room []) (lent_room (replicate 17 0)) (lent_room zeros) 0 [] _ (0 ∷ 0 ∷ 2 ∷ 0 ∷ 0 ∷ 0 ∷ 0 ∷ 0 ∷ []) refl (omega arith) (omega arith)
       (record { answers = record { number_is = refl; words_are = refl }; room_is = refl; row_is = refl })
 
   -- the second of them, found
   pub found_in_words : AnswersObject 0x112F [] (built_all params) 4 [] zeros 0 [] (0 ∷ 0 ∷ 0x112F ∷ 0 ∷ 9 ∷ 0 ∷ 4 ∷ 0 ∷ [])
-  unfolding lent zeros params content built length_bytes last laid splice parsed measured marshaled parameters parameters_fuel find_from work_found Lacks
+  unfolding lent lent_room zeros params content built length_bytes last laid splice parsed measured marshaled parameters parameters_fuel find_from work_found Lacks
   found_in_words =
-      first_is_found_in_words 0x112F (lent content) (lent []) [] κ₃ (lent zeros) (0 ∷ 0 ∷ 0x112F ∷ 0 ∷ 9 ∷ 0 ∷ 4 ∷ 0 ∷ []) (omega arith) 0
+      first_is_found_in_words 0x112F (lent content) (lent_room []) [] κ₃ (lent_room zeros) (0 ∷ 0 ∷ 0x112F ∷ 0 ∷ 9 ∷ 0 ∷ 4 ∷ 0 ∷ []) (omega arith) 0
       (record { answers = record { number_is = refl; words_are = refl }; room_is = refl }) [] ((0x2110, 0xC1 ∷ []) ∷ []) [] params_fit.0 ((λ e. omega arith), tt) refl
 
   -- raw 0x8004, laid out to the end of the run
   pub streamed_in_words : AnswersObject 0x2412 (0xC1 ∷ 9 ∷ []) (0x80 ∷ 0x04 ∷ 0x24 ∷ 0x12 ∷ 0xC1 ∷ 9 ∷ []) 6 [] zeros 0 [] (0 ∷ 0 ∷ 0x2412 ∷ 0 ∷ 4 ∷ 2 ∷ 6 ∷ 0 ∷ [])
-  unfolding lent zeros object_at parsed measured marshaled unmarked laid splice
+  unfolding lent lent_room zeros object_at parsed measured marshaled unmarked laid splice
   streamed_in_words =
       layout_read_in_words 0x2412 (0xC1 ∷ 9 ∷ []) (0x80 ∷ 0x04 ∷ 0x24 ∷ 0x12 ∷ 0xC1 ∷ 9 ∷ []) [] (omega arith, omega arith) streamed (λ e. refl) (λ e. refl)
-      (lent (0x80 ∷ 0x04 ∷ 0x24 ∷ 0x12 ∷ 0xC1 ∷ 9 ∷ [])) 0 refl (lent []) [] κ₃ (lent zeros) 0 (0 ∷ 0 ∷ 0x2412 ∷ 0 ∷ 4 ∷ 2 ∷ 6 ∷ 0 ∷ []) (omega arith)
+      (lent (0x80 ∷ 0x04 ∷ 0x24 ∷ 0x12 ∷ 0xC1 ∷ 9 ∷ [])) 0 refl (lent_room []) [] κ₃ (lent_room zeros) 0 (0 ∷ 0 ∷ 0x2412 ∷ 0 ∷ 4 ∷ 2 ∷ 6 ∷ 0 ∷ []) (omega arith)
       (record { answers = record { number_is = refl; words_are = refl }; room_is = refl })
 
   -- an object of one byte, built into a room of eight and read from it
   pub built_in_words : AnswersNumber 5 zeros 0 (0 ∷ 0 ∷ 5 ∷ 0 ∷ 0 ∷ 0 ∷ 0 ∷ 0 ∷ []) × InRoom 0x2412 (0xC1 ∷ []) (replicate 8 9) small_object
       × AnswersObject 0x2412 (0xC1 ∷ []) small_object 5 [] zeros 0 [] (0 ∷ 0 ∷ 0x2412 ∷ 0 ∷ 4 ∷ 1 ∷ 5 ∷ 0 ∷ [])
-  unfolding lent zeros small_object built length_bytes last laid splice object_at parsed measured marshaled
+  unfolding lent lent_room zeros small_object built length_bytes last laid splice object_at parsed measured marshaled
   built_in_words =
-      built_and_read_in_words 0x2412 (lent (0xC1 ∷ [])) (lent (replicate 8 9)) small_object (omega arith, omega arith) (omega arith) (lent small_object) 0 refl (lent []) []
-      κ₃ κ₃ (lent zeros) (lent zeros) 0 0 (0 ∷ 0 ∷ 5 ∷ 0 ∷ 0 ∷ 0 ∷ 0 ∷ 0 ∷ []) (0 ∷ 0 ∷ 0x2412 ∷ 0 ∷ 4 ∷ 1 ∷ 5 ∷ 0 ∷ []) (omega arith) (omega arith)
+      built_and_read_in_words 0x2412 (lent (0xC1 ∷ [])) (lent_room (replicate 8 9)) small_object (omega arith, omega arith) (omega arith) (lent small_object) 0 refl (lent_room []) []
+      κ₃ κ₃ (lent_room zeros) (lent_room zeros) 0 0 (0 ∷ 0 ∷ 5 ∷ 0 ∷ 0 ∷ 0 ∷ 0 ∷ 0 ∷ []) (0 ∷ 0 ∷ 0x2412 ∷ 0 ∷ 4 ∷ 1 ∷ 5 ∷ 0 ∷ []) (omega arith) (omega arith)
       (record { answers = record { number_is = refl; words_are = refl }; room_is = refl }) (record { answers = record { number_is = refl; words_are = refl }; room_is = refl })
 
   -- 412 as two bytes
   pub number_in_words : AnswersNumber 412 zeros 0 (0 ∷ 0 ∷ 412 ∷ 0 ∷ 0 ∷ 0 ∷ 0 ∷ 0 ∷ [])
-  unfolding lent zeros laid splice
+  unfolding lent lent_room zeros laid splice
   number_in_words =
-      u16_comes_back_in_words 412 (lent (0x01 ∷ 0x9C ∷ [])) κ₂ (lent zeros) 0 (0 ∷ 0 ∷ 412 ∷ 0 ∷ 0 ∷ 0 ∷ 0 ∷ 0 ∷ []) (omega arith) (omega arith) refl
+      u16_comes_back_in_words 412 (lent (0x01 ∷ 0x9C ∷ [])) κ₂ (lent_room zeros) 0 (0 ∷ 0 ∷ 412 ∷ 0 ∷ 0 ∷ 0 ∷ 0 ∷ 0 ∷ []) (omega arith) (omega arith) refl
       (record { number_is = refl; words_are = refl })
 
   -- a marker behind 32,757 bytes, and whatever the contract allows
   pub marker_in_words : (a room : List ℕ) → length a ≡ 32757 → 32758 ≤ length room → (r : ℕ) (after said : List ℕ)
-      → lattrugone_strip_markers.Post κ₃ (lent (a ++ (0x7F ∷ 0xFE ∷ 1 ∷ [])), (lent room, (lent zeros, tt))) r (lent (a ++ (0x7F ∷ 0xFE ∷ 1 ∷ [])), (lent after, (lent said, tt)))
+      → lattrugone_strip_markers.Post κ₃ (lent (a ++ (0x7F ∷ 0xFE ∷ 1 ∷ [])), (lent_room room, (lent_room zeros, tt))) r (lent (a ++ (0x7F ∷ 0xFE ∷ 1 ∷ [])), (lent_room after, (lent_room said, tt)))
       → AnswersNumber (length (a ++ (1 ∷ []))) zeros r said × (after ≡ (a ++ (1 ∷ [])) ++ drop (length (a ++ (1 ∷ []))) room)
-  unfolding lent zeros
+  unfolding lent lent_room zeros
   marker_in_words a room l h r after said q =
-      markers_come_out_in_words a (0x7F ∷ 0xFE ∷ 1 ∷ []) (1 ∷ []) l (ends fe (1 ∷ []) (omega arith) (omega arith)) (lent (a ++ (0x7F ∷ 0xFE ∷ 1 ∷ []))) (lent room) refl (omega (arith, length-append a (1 ∷ []))) after κ₃ (lent zeros) r said (omega arith) q
+      markers_come_out_in_words a (0x7F ∷ 0xFE ∷ 1 ∷ []) (1 ∷ []) l (ends fe (1 ∷ []) (omega arith) (omega arith)) (lent (a ++ (0x7F ∷ 0xFE ∷ 1 ∷ []))) (lent_room room) refl (omega (arith, length-append a (1 ∷ []))) after κ₃ (lent_room zeros) r said (omega arith) q
 
   -- ---- in records
 
@@ -129,14 +129,14 @@ module _ (κ₂ : Lfts 2) (κ₃ : Lfts 3) (κ₄ : Lfts 4) where
   builder n = record { code_point = 0x1041; fill = n }
 
   added_by_calls : ByCalls 0x1041 (replicate 10 9) params (builder 9) both
-  unfolding lent params one both built length_bytes last laid splice
+  unfolding lent lent_room params one both built length_bytes last laid splice
   added_by_calls =
-      call (call no_call κ₂ 0x2110 (lent (0xC1 ∷ [])) (lent (replicate 10 9)) (builder 5) one refl (record { answers = refl; room_is = refl }))
-      κ₂ 0x112F (lent []) (lent one) (builder 9) both refl (record { answers = refl; room_is = refl })
+      call (call no_call κ₂ 0x2110 (lent (0xC1 ∷ [])) (lent_room (replicate 10 9)) (builder 5) one refl (record { answers = refl; room_is = refl }))
+      κ₂ 0x112F (lent []) (lent_room one) (builder 9) both refl (record { answers = refl; room_is = refl })
 
   pub read_by_calls : (Bytes 13 ≡ Bytes (length (built 0x1041 (built_all params)))) × InRoom 0x1041 (built_all params) (replicate 14 9) object
       × ReadsAs 0x1041 (built_all params) run 2 (built_header (built_all params)) [] (Gives (plain 2 0x1041 4 9)) []
-  unfolding lent params both object run built length_bytes last laid splice object_at parsed measured marshaled
+  unfolding lent lent_room params both object run built length_bytes last laid splice object_at parsed measured marshaled
   read_by_calls =
-      request_is_read 0x1041 params (omega arith, omega (arith, params_fit.2)) params_fit.0 (replicate 10 9) (lent both) (lent (replicate 14 9)) object (omega (arith, params_fit.3)) (lent run) 2 refl (lent []) [] (builder 9)
+      request_is_read 0x1041 params (omega arith, omega (arith, params_fit.2)) params_fit.0 (replicate 10 9) (lent both) (lent_room (replicate 14 9)) object (omega (arith, params_fit.3)) (lent run) 2 refl (lent_room []) [] (builder 9)
       added_by_calls κ₂ κ₂ (Bytes 13) (Gives (plain 2 0x1041 4 9)) (record { answers = refl; room_is = refl }) (record { answers = refl; work_is = refl })

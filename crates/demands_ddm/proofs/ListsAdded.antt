@@ -5,7 +5,7 @@ use mathlib.Core.Path.{◌≡◌, refl, sym, ap, subst, subst₂, ◌∙◌}
 use mathlib.Core.List.{List, [], ◌∷◌, ◌++◌, append_assoc, append-nil}
 use lib.ListN.{length, get_or, replicate, length-append}
 use contract.Lifetimes.{Lfts}
-use denote.Ref.{Bor}
+use denote.Ref.{Bor, MutBor}
 use Rattle.wire.specs.Bytes.{splice, laid}
 use Rattle.wire.proofs.Splicing.{splice_none, splice_length, splice_splice, laid_fits}
 use Rattle.answer.specs.declared.RoomFor.{RoomFor}
@@ -20,6 +20,10 @@ use Rattle.demands_ddm.proofs.Adding.{room_enough}
 -- a slice that holds these, wherever it stands
 unfoldable pub lent : List ℕ → Bor (List ℕ)
 lent l = record { ref_ptr = (0, 0); now = l }
+
+-- the same, lent to be written
+unfoldable pub lent_room : List ℕ → MutBor (List ℕ)
+lent_room l = record { ref_ptr = (0, 0); ghost_name = 0; now = l }
 
 -- However one parameter is added: the fill mark and the room after a list.
 module _ (Made : List (ℕ × List ℕ) → ℕ → List ℕ → Type 0) (start : List ℕ) (nothing : Made [] 0 start)
@@ -52,12 +56,12 @@ module _ (Made : List (ℕ × List ℕ) → ℕ → List ℕ → Type 0) (start 
 
 pub added_by_calls : (κs : Lfts 2) (cp : ℕ) (start : List ℕ) (l : List (ℕ × List ℕ)) → length (built_all l) ≤ length start
     → ByCalls cp start l (builder_of cp (length (built_all l))) (splice start 0 (built_all l))
-unfolding lent
+unfolding lent lent_room
 added_by_calls κs cp start =
     all_made (λ l fill now. ByCalls cp start l (builder_of cp fill) now) start no_call
     (λ l fill now c d h a.
     let p : List ℕ = built c d in
-    call a κs c (lent d) (lent now) (builder_of cp (fill + length p)) (splice now fill p) refl
+    call a κs c (lent d) (lent_room now) (builder_of cp (fill + length p)) (splice now fill p) refl
     (record { answers = sym (ap (added_by (builder_of cp fill) (length p)) (room_enough (builder_of cp fill) p now h)); room_is = sym (laid_fits now fill p h) }))
 
 -- eight words
@@ -65,13 +69,13 @@ unfoldable pub zeros : List ℕ
 zeros = replicate 8 0
 
 pub added_in_words : (κs : Lfts 3) (start : List ℕ) (l : List (ℕ × List ℕ)) → length (built_all l) ≤ length start → ByWords start l (length (built_all l)) (splice start 0 (built_all l))
-unfolding lent zeros laid splice
+unfolding lent lent_room zeros laid splice
 added_in_words κs start =
     all_made (λ l fill now. ByWords start l fill now) start no_word
     (λ l fill now c d h a.
     let p : List ℕ = built c d in
     let e = sym (room_enough (adding fill) p now h) in
-    word a κs c (lent d) (lent now) (lent zeros) (splice now fill p) (done_words (fill + length p) 0 0 0) refl (omega arith)
+    word a κs c (lent d) (lent_room now) (lent_room zeros) (splice now fill p) (done_words (fill + length p) 0 0 0) refl (omega arith)
     (record {
       answers = record {
         number_is = ap (λ (x : RoomFor). get_or (added_words (added_by (adding fill) (length p) x)) 0 0) e;

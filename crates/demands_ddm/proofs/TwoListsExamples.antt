@@ -20,7 +20,7 @@ use Rattle.demands_ddm.specs.ReadingBack.{plain}
 use Rattle.demands_ddm.specs.ReadingWords.{AnswersObject, AnswersNone}
 use Rattle.demands_ddm.specs.Adding.{ByCalls, no_call, call, call_u16, ByWords, no_word, word, word_u16}
 use Rattle.demands_ddm.specs.TwoLists.{StepGives, WalkGives, ended, given, TwoLists}
-use Rattle.demands_ddm.proofs.ListsAdded.{lent, zeros}
+use Rattle.demands_ddm.proofs.ListsAdded.{lent, lent_room, zeros}
 use Rattle.demands_ddm.proofs.KeptDdmRequests.{equal_data, equal_objects, equal_data_in_words, equal_objects_in_words, walk_gives_back_in_words}
 
 -- ---- "Empty lists and empty data are included"
@@ -55,25 +55,25 @@ both_fit = ((omega arith, omega arith, tt), (omega arith, omega arith, tt), (ome
 
 module _ (κ₁ : Lfts 1) (κ₂ : Lfts 2) (κ₃ : Lfts 3) where
   by_u16 : (cp : ℕ) → ByCalls cp (replicate 6 9) seven (builder_of cp 6) filled_part
-  unfolding lent filled_part built length_bytes last laid splice
-  by_u16 cp = call_u16 no_call κ₁ 0x2110 7 (lent (replicate 6 9)) (builder_of cp 6) filled_part refl (record { answers = refl; room_is = refl })
+  unfolding lent lent_room filled_part built length_bytes last laid splice
+  by_u16 cp = call_u16 no_call κ₁ 0x2110 7 (lent_room (replicate 6 9)) (builder_of cp 6) filled_part refl (record { answers = refl; room_is = refl })
 
   by_bytes : (cp : ℕ) → ByCalls cp (replicate 8 1) two_bytes (builder_of cp 6) (filled_part ++ (1 ∷ 1 ∷ []))
-  unfolding lent filled_part built length_bytes last laid splice
-  by_bytes cp = call no_call κ₂ 0x2110 (lent (0 ∷ 7 ∷ [])) (lent (replicate 8 1)) (builder_of cp 6) (filled_part ++ (1 ∷ 1 ∷ [])) refl (record { answers = refl; room_is = refl })
+  unfolding lent lent_room filled_part built length_bytes last laid splice
+  by_bytes cp = call no_call κ₂ 0x2110 (lent (0 ∷ 7 ∷ [])) (lent_room (replicate 8 1)) (builder_of cp 6) (filled_part ++ (1 ∷ 1 ∷ [])) refl (record { answers = refl; room_is = refl })
 
   -- in builders of any two code points
   pub one_list : (cp cp' : ℕ) → seven ≡ two_bytes
-  unfolding lent filled_part
+  unfolding lent lent_room filled_part
   one_list cp cp' =
       (equal_data seven two_bytes both_fit.0 both_fit.1 cp cp' (replicate 6 9) (replicate 8 1) (lent filled_part) (lent (filled_part ++ (1 ∷ 1 ∷ [])))
       (builder_of cp 6) (builder_of cp' 6) (by_u16 cp) (by_bytes cp')).0 refl
 
   pub one_object : (◌≡◌ {A = ℕ} 0x1041 0x1041) × (seven ≡ two_bytes)
-  unfolding lent filled_part whole_object built length_bytes last laid splice
+  unfolding lent lent_room filled_part whole_object built length_bytes last laid splice
   one_object =
       (equal_objects seven two_bytes both_fit.0 both_fit.1 0x1041 0x1041 (replicate 6 9) (replicate 8 1) (lent filled_part) (lent (filled_part ++ (1 ∷ 1 ∷ [])))
-      (builder_of 0x1041 6) (builder_of 0x1041 6) (by_u16 0x1041) (by_bytes 0x1041) κ₂ κ₂ (lent (replicate 10 9)) (lent (replicate 11 1)) 10 10 whole_object (whole_object ++ (1 ∷ []))
+      (builder_of 0x1041 6) (builder_of 0x1041 6) (by_u16 0x1041) (by_bytes 0x1041) κ₂ κ₂ (lent_room (replicate 10 9)) (lent_room (replicate 11 1)) 10 10 whole_object (whole_object ++ (1 ∷ []))
       both_fit.2 both_fit.3 (record { answers = refl; room_is = refl }) (record { answers = refl; room_is = refl })).0 refl
 
   -- the same by the calls exported
@@ -81,27 +81,27 @@ module _ (κ₁ : Lfts 1) (κ₂ : Lfts 2) (κ₃ : Lfts 3) where
   word_of n = 0 ∷ 0 ∷ n ∷ 0 ∷ 0 ∷ 0 ∷ 0 ∷ 0 ∷ []
 
   u16_in_words : ByWords (replicate 6 9) seven 6 filled_part
-  unfolding lent zeros word_of filled_part built length_bytes last laid splice
+  unfolding lent lent_room zeros word_of filled_part built length_bytes last laid splice
   u16_in_words =
-      word_u16 no_word κ₂ 0x2110 7 (lent (replicate 6 9)) (lent zeros) filled_part (word_of 6) refl (omega arith)
+      word_u16 no_word κ₂ 0x2110 7 (lent_room (replicate 6 9)) (lent_room zeros) filled_part (word_of 6) refl (omega arith)
       (record { answers = record { number_is = refl; words_are = refl }; room_is = refl })
 
   bytes_in_words : ByWords (replicate 8 1) two_bytes 6 (filled_part ++ (1 ∷ 1 ∷ []))
-  unfolding lent zeros word_of filled_part built length_bytes last laid splice
+  unfolding lent lent_room zeros word_of filled_part built length_bytes last laid splice
   bytes_in_words =
-      word no_word κ₃ 0x2110 (lent (0 ∷ 7 ∷ [])) (lent (replicate 8 1)) (lent zeros) (filled_part ++ (1 ∷ 1 ∷ [])) (word_of 6) refl (omega arith)
+      word no_word κ₃ 0x2110 (lent (0 ∷ 7 ∷ [])) (lent_room (replicate 8 1)) (lent_room zeros) (filled_part ++ (1 ∷ 1 ∷ [])) (word_of 6) refl (omega arith)
       (record { answers = record { number_is = refl; words_are = refl }; room_is = refl })
 
   pub one_list_in_words : seven ≡ two_bytes
-  unfolding lent filled_part
+  unfolding lent lent_room filled_part
   one_list_in_words =
       (equal_data_in_words seven two_bytes both_fit.0 both_fit.1 0 0 (replicate 6 9) (replicate 8 1) (lent filled_part) (lent (filled_part ++ (1 ∷ 1 ∷ []))) 6 6 u16_in_words bytes_in_words).0 refl
 
   pub one_object_in_words : (◌≡◌ {A = ℕ} 0x1041 0x1041) × (seven ≡ two_bytes)
-  unfolding lent zeros word_of filled_part whole_object built length_bytes last laid splice
+  unfolding lent lent_room zeros word_of filled_part whole_object built length_bytes last laid splice
   one_object_in_words =
       (equal_objects_in_words seven two_bytes both_fit.0 both_fit.1 0x1041 0x1041 (replicate 6 9) (replicate 8 1) (lent filled_part) (lent (filled_part ++ (1 ∷ 1 ∷ [])))
-      6 6 u16_in_words bytes_in_words κ₃ κ₃ (lent (replicate 10 9)) (lent (replicate 11 1)) (lent zeros) (lent zeros) whole_object (whole_object ++ (1 ∷ [])) (word_of 10) (word_of 10)
+      6 6 u16_in_words bytes_in_words κ₃ κ₃ (lent_room (replicate 10 9)) (lent_room (replicate 11 1)) (lent_room zeros) (lent_room zeros) whole_object (whole_object ++ (1 ∷ [])) (word_of 10) (word_of 10)
       both_fit.2 both_fit.3 (omega arith) (omega arith)
       (record { answers = record { number_is = refl; words_are = refl }; room_is = refl }) (record { answers = record { number_is = refl; words_are = refl }; room_is = refl })).0 refl
 
@@ -117,12 +117,12 @@ module _ (κ₁ : Lfts 1) (κ₂ : Lfts 2) (κ₃ : Lfts 3) where
   said_first = 0 ∷ 6 ∷ 0x2110 ∷ 0 ∷ 4 ∷ 2 ∷ 6 ∷ 0 ∷ []
 
   pub walked_in_words : AnswersObject 0x2110 (two 7) (built_all seven) 6 [] zeros 0 [] said_first × AnswersNone [] zeros 11 [] (11 ∷ 6 ∷ 0 ∷ 0 ∷ 0 ∷ 0 ∷ 0 ∷ 0 ∷ [])
-  unfolding lent zeros filled_part built length_bytes last laid splice param_step_at parsed measured marshaled
+  unfolding lent lent_room zeros filled_part built length_bytes last laid splice param_step_at parsed measured marshaled
   walked_in_words =
       let walk = walk_gives_back_in_words seven both_fit.0 κ₂ (lent filled_part) refl in
       let one = first_step walk in (
-        (one.1 (lent zeros) 0 said_first (omega arith) (record { number_is = refl; words_are = refl })).0,
-        (last_step one.2 (lent zeros) 11 (11 ∷ 6 ∷ 0 ∷ 0 ∷ 0 ∷ 0 ∷ 0 ∷ 0 ∷ []) (omega arith) (record { number_is = refl; words_are = refl })).0,
+        (one.1 (lent_room zeros) 0 said_first (omega arith) (record { number_is = refl; words_are = refl })).0,
+        (last_step one.2 (lent_room zeros) 11 (11 ∷ 6 ∷ 0 ∷ 0 ∷ 0 ∷ 0 ∷ 0 ∷ 0 ∷ []) (omega arith) (record { number_is = refl; words_are = refl })).0,
       )
 
 -- ---- inline, and with four length bytes
@@ -130,16 +130,16 @@ module _ (κ₁ : Lfts 1) (κ₂ : Lfts 2) (κ₃ : Lfts 3) where
 module _ (κ₂ : Lfts 2) where
   -- the longest data inline, 32,763 bytes, and the shortest with four length bytes, 32,764: added, computed, and walked over
   pub longest_inline : ByCalls 0x2001 (replicate 32768 9) ((0x2414, replicate 32763 0xC1) ∷ []) (builder_of 0x2001 32767) (0x7F ∷ 0xFF ∷ 0x24 ∷ 0x14 ∷ (replicate 32763 0xC1 ++ (9 ∷ [])))
-  unfolding lent built length_bytes last laid splice
+  unfolding lent lent_room built length_bytes last laid splice
   longest_inline =
-      call no_call κ₂ 0x2414 (lent (replicate 32763 0xC1)) (lent (replicate 32768 9)) (builder_of 0x2001 32767) (0x7F ∷ 0xFF ∷ 0x24 ∷ 0x14 ∷ (replicate 32763 0xC1 ++ (9 ∷ []))) refl
+      call no_call κ₂ 0x2414 (lent (replicate 32763 0xC1)) (lent_room (replicate 32768 9)) (builder_of 0x2001 32767) (0x7F ∷ 0xFF ∷ 0x24 ∷ 0x14 ∷ (replicate 32763 0xC1 ++ (9 ∷ []))) refl
       (record { answers = refl; room_is = refl })
 
   pub shortest_four : ByCalls 0x2001 (replicate 32773 9) ((0x2414, replicate 32764 0xC1) ∷ []) (builder_of 0x2001 32772)
       (0x80 ∷ 0x08 ∷ 0x24 ∷ 0x14 ∷ 0 ∷ 0 ∷ 0x7F ∷ 0xFC ∷ (replicate 32764 0xC1 ++ (9 ∷ [])))
-  unfolding lent built length_bytes last laid splice
+  unfolding lent lent_room built length_bytes last laid splice
   shortest_four =
-      call no_call κ₂ 0x2414 (lent (replicate 32764 0xC1)) (lent (replicate 32773 9)) (builder_of 0x2001 32772)
+      call no_call κ₂ 0x2414 (lent (replicate 32764 0xC1)) (lent_room (replicate 32773 9)) (builder_of 0x2001 32772)
       (0x80 ∷ 0x08 ∷ 0x24 ∷ 0x14 ∷ 0 ∷ 0 ∷ 0x7F ∷ 0xFC ∷ (replicate 32764 0xC1 ++ (9 ∷ []))) refl (record { answers = refl; room_is = refl })
 
 pub four : List ℕ

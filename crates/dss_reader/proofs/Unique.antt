@@ -56,7 +56,7 @@ module _ (κs : Lfts 1) (d : DssReader) (run : Bor (List ℕ)) where
   into_remaining_one r r' p q = (p.bytes_are ∙ sym q.bytes_are, p.starts ∙ sym q.starts)
 
   pub into_remaining_some : into_remaining.Post κs (d, (run, tt))
-      (record { ref_ptr = start_at run (pick (leb d.position (length run.now)) d.position (length run.now)); ghost_name = run.ghost_name; now = drop d.position run.now }) (d, (run, tt))
+      (record { ref_ptr = start_at run (pick (leb d.position (length run.now)) d.position (length run.now)); now = drop d.position run.now }) (d, (run, tt))
   into_remaining_some = record { bytes_are = refl; starts = refl }
 
   pub complete_frame_len_one : (r r' : FrameEnd) → complete_frame_len.Post κs (d, (run, tt)) r (d, (run, tt)) → complete_frame_len.Post κs (d, (run, tt)) r' (d, (run, tt)) → r ≡ r'

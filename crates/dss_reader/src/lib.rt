@@ -1,4 +1,6 @@
 // Reading frames off a run: document 01, "Reading".
+#![tactic(auto)]
+
 ghost use Rattle.std.specs.Prelude.{◌≡◌, ◌-◌, length};
 ghost use Rattle.wire.specs.Bytes.{splice};
 ghost use Rattle.wire.specs.Parts.{RestAt};
@@ -14,27 +16,27 @@ use dss_frame::{DssFrame, Rules};
 use dss_measure::{Extent, Measured, Walked};
 
 // A reader's state: its place in the run. The run is lent with each call, and a longer one at the same position extends it.
-#[derive(Drop)]
+#[derive(Clone, Copy)]
 pub struct DssReader {
     pub position: usize,
 }
 
 // What looking for a frame's end comes to: the byte after its last, or the refusal.
-#[derive(Drop)]
+#[derive(Clone, Copy)]
 pub enum FrameEnd {
     End(usize),
     Refused(Refused),
 }
 
 // What reading a frame comes to, with the state after it.
-#[derive(Drop)]
+#[derive(Clone, Copy)]
 pub enum FrameRead {
     Frame(DssFrame, DssReader),
     Refused(Refused, DssReader),
 }
 
 // What reading all frames comes to: how many records stand in the row and how many bytes in the room, and the state after.
-#[derive(Drop)]
+#[derive(Clone, Copy)]
 pub enum FramesRead {
     Frames {
         count: usize,
@@ -45,7 +47,7 @@ pub enum FramesRead {
 }
 
 // What measuring all frames comes to: how many they are, how many bytes their payloads have, and where the reading ended.
-#[derive(Drop)]
+#[derive(Clone, Copy)]
 pub enum AllMeasured {
     Frames {
         count: usize,

@@ -2,6 +2,8 @@
 // and words go as in the crate gateway_head, a frame as in gateway_reader. Either call has an archive of its own, in which nothing but it
 // measures: two callers of one long function would keep the compiler from joining it to either, and each frame would cost twice
 // as much.
+#![tactic(auto)]
+
 ghost use Rattle.std.specs.Prelude.{◌≡◌};
 ghost use Rattle.dss_measure.specs.Measure.{measured_at};
 ghost use Rattle.gateway_words.specs.AnswerWords.{Answered};

@@ -1,5 +1,7 @@
 // How a frame goes to C and Rust: in eight words. A row of records is lent as words, ten a record, one behind the other. The
 // crates that export the port's functions call this.
+#![tactic(auto)]
+
 ghost use Rattle.std.specs.Prelude.{◌≡◌};
 ghost use Rattle.wire.specs.Bytes.{laid};
 ghost use Rattle.gateway_words.specs.AnswerWords.{answer_len};
