@@ -1,5 +1,7 @@
 // Taking one frame for C and Rust: document 02, W-208, "Measure, then take"; measuring it is the crate gateway_measure's, which says
 // why there are two.
+#![tactic(auto)]
+
 ghost use Rattle.gateway_measure.specs.MeasureWords.{rules_of};
 ghost use Rattle.gateway_take.specs.TakeWords.{TakesFrame};
 
