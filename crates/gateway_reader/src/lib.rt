@@ -1,5 +1,7 @@
 // The reader for C and Rust: document 01, module 3. Slices, numbers and words go as in the crate gateway_head. A reader goes in as
 // its position. All frames at once are the crate gateway_frames'.
+#![tactic(auto)]
+
 ghost use Rattle.std.specs.Prelude.{◌≡◌, ◌-◌, length};
 ghost use Rattle.wire.specs.Bytes.{pick};
 ghost use Rattle.dss_reader.specs.Reader.{frame_end, is_end};
