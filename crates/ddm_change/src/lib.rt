@@ -1,5 +1,7 @@
 // Changing one parameter of data, and of a request already built: document 02, W-204. Nothing is written before all is known: one
 // walk finds the parameter and any fault, the room is tested, and then the parts are laid down.
+#![tactic(auto)]
+
 mod carried; // carried.rt: a payload where it lies, whole or cut into a frame's segments
 mod laying; // laying.rt: the parts of a payload laid down as the writer cuts them
 mod request; // request.rt: what is known of a request before it is laid down
@@ -15,35 +17,35 @@ use answer::{Laid, Refusal, Refused};
 
 // How a run carries a payload: its first byte's place, and how many continuations there are, each behind two bytes. With a place
 // of 0 and no continuations the run is the payload.
-#[derive(Drop)]
+#[derive(Clone, Copy)]
 pub(crate) struct Carriage {
     pub lead: usize,
     pub continuations: usize,
 }
 
 // What one parameter is: its code point and all its bytes; or that it is at fault.
-#[derive(Drop)]
+#[derive(Clone, Copy)]
 pub(crate) enum Param {
     Takes { code_point: u16, total: usize },
     Fault,
 }
 
 // The first parameter with a code point, from its first byte up to the byte after its last; or that there is none.
-#[derive(Drop)]
+#[derive(Clone, Copy)]
 pub enum Spot {
     Nowhere,
     At { from: usize, to: usize },
 }
 
 // What the walk over all parameters comes to: where the first one with the code point is, or where the one at fault.
-#[derive(Drop)]
+#[derive(Clone, Copy)]
 pub(crate) enum Searched {
     Sound(Spot),
     Fault(usize),
 }
 
 // What reading the one frame of a request comes to: the byte after its last and its segments, or a refusal.
-#[derive(Drop)]
+#[derive(Clone, Copy)]
 pub(crate) enum Alone {
     Frame { end: usize, segments: usize },
     Refused(Refused),
@@ -52,7 +54,7 @@ pub(crate) enum Alone {
 // Where in a request's payload the parameter stands that is to be rewritten, and how long all is afterwards: the object's code point;
 // how many continuations the frame has; where in the payload the object's data start, the parameter from its first byte up to the one
 // after its last, and the payload's end; then the lengths of data and payload after, 2^64 - 1 where they are more.
-#[derive(Drop)]
+#[derive(Clone, Copy)]
 pub(crate) struct Plan {
     pub code_point: u16,
     pub continuations: usize,
@@ -65,7 +67,7 @@ pub(crate) struct Plan {
 }
 
 // What is known of a request: how it is to be laid down, or why it is refused.
-#[derive(Drop)]
+#[derive(Clone, Copy)]
 pub(crate) enum Planned {
     Lay(Plan),
     Refused(Refused),

@@ -1,0 +1,78 @@
+-- `ddm_change::carried::length_in` meets its contract: each return rewrites with the tests that led there.
+use Prim.Native.Nat.{ℕ, ◌-◌, ◌≤◌, ◌<◌}
+use native.Mathlib.Omega.{arith}
+use mathlib.Core.Path.{◌≡◌, sym, ◌∙◌, ap}
+use mathlib.Core.List.{List}
+use lib.ListN.{length, drop, length-drop}
+use borrow.Author.Tests.{lt-ltb, le-ltb, eq-eqb, ne_eqb}
+use Rattle.wire.specs.Bytes.{be16}
+use Rattle.wire.proofs.WireLaws.{pick_yes, pick_no}
+use Rattle.answer.specs.declared.Refusal.TheVariants.{BufferTooShort}
+use Rattle.ddm_length.specs.declared.Marshaled.{Marshaled}
+use Rattle.ddm_length.specs.declared.Marshaled.TheVariants.{Takes}
+use Rattle.ddm_length.specs.Lengths.{refuse, extended, marshaled}
+use Rattle.ddm_length.proofs.MarkerPieces.{be16_drop}
+use Rattle.ddm_change.specs.inner.Carried.{carried}
+use Rattle.ddm_change.proofs.carried.length_in.Goals as goal
+
+module _ (v : List ℕ) (at place n : ℕ) (e : n ≡ length v) where
+  len : n - at ≡ length (drop at v)
+  len = omega (arith, length-drop at v)
+
+  short : n - at < 4 → refuse place (BufferTooShort 4 (n - at)) ≡ marshaled (drop at v) place
+  unfolding marshaled
+  short h = rw len (sym (pick_yes _ _ (lt-ltb (length (drop at v)) 4 (omega (arith, len)))))
+
+  module _ (raw : ℕ) (r : raw ≡ be16 v at) (four : 4 ≤ n - at) where
+    four_there : 4 ≤ length (drop at v)
+    four_there = omega (arith, len)
+
+    is : be16 (drop at v) 0 ≡ raw
+    is = be16_drop v at ∙ sym r
+
+    all : raw ≡ 0x8004 → Takes (n - at) 4 ≡ marshaled (drop at v) place
+    unfolding marshaled
+    all h = rw len (sym (pick_no _ _ (le-ltb (length (drop at v)) 4 four_there) ∙ pick_yes _ _ (eq-eqb (be16 (drop at v) 0) 0x8004 (is ∙ h))))
+
+    module _ (other : ¬ (raw ≡ 0x8004)) where
+      not_all : ¬ (be16 (drop at v) 0 ≡ 0x8004)
+      not_all h = other (sym is ∙ h)
+
+      inline : raw < 0x8000 → Takes raw 4 ≡ marshaled (drop at v) place
+      unfolding marshaled
+      inline h =
+          ap (λ (m : ℕ). Takes m 4) (sym is)
+          ∙ sym (pick_no _ _ (le-ltb (length (drop at v)) 4 four_there) ∙ pick_no _ _ (ne_eqb (be16 (drop at v) 0) 0x8004 not_all)
+          ∙ pick_yes _ _ (lt-ltb (be16 (drop at v) 0) 0x8000 (omega (arith, is))))
+
+      wide : (m : Marshaled) → m ≡ extended (drop at v) place (raw - 0x8000) → 0x8000 ≤ raw → m ≡ marshaled (drop at v) place
+      unfolding marshaled
+      wide m k h =
+          k ∙ ap (λ (m : ℕ). extended (drop at v) place (m - 0x8000)) (sym is)
+          ∙ sym (pick_no _ _ (le-ltb (length (drop at v)) 4 four_there) ∙ pick_no _ _ (ne_eqb (be16 (drop at v) 0) 0x8004 not_all)
+          ∙ pick_no _ _ (le-ltb (be16 (drop at v) 0) 0x8000 (omega (arith, is))))
+
+pub returns-then-there-lt4 : goal.returns-then-there-lt4
+returns-then-there-lt4 c =
+    let s = c.args in
+    short (carried s.c s.run.now) s.at s.place _ c.len_in.ensures c.if-there-lt4.true
+
+pub returns-then-raw : goal.returns-then-raw
+returns-then-raw c =
+    let a = c in
+    let s = a.args in
+    all (carried s.c s.run.now) s.at s.place _ a.len_in.ensures _ c.u16_in-raw.ensures a.if-there-lt4.false c.if-raw.true
+
+pub returns-then-raw-lt32768 : goal.returns-then-raw-lt32768
+returns-then-raw-lt32768 c =
+    let a = c in
+    let s = a.args in
+    inline (carried s.c s.run.now) s.at s.place _ a.len_in.ensures _ c.u16_in-raw.ensures
+    a.if-there-lt4.false c.if-raw.false c.if-raw-lt32768.true
+
+pub returns : goal.returns
+returns c =
+    let a = c in
+    let s = a.args in
+    wide (carried s.c s.run.now) s.at s.place _ a.len_in.ensures _ c.u16_in-raw.ensures
+    a.if-there-lt4.false c.if-raw.false _ c.extended_in.ensures c.if-raw-lt32768.false
