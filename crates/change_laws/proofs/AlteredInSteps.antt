@@ -1,6 +1,6 @@
 -- The whole way of "We build a request once a site and alter one value for each extension block". The request is an
 -- object in a frame, so its data are changed, built and written: three calls, by the contracts that they have.
-use Prim.Native.Nat.{ℕ, ◌+◌, ◌^◌, ◌≤◌, ◌<◌}
+use Prim.Native.Nat.{ℕ, ◌^◌, ◌<◌}
 use mathlib.Core.Path.{◌≡◌, sym, ◌∙◌, ap}
 use mathlib.Core.Bool.{Bool}
 use mathlib.Core.List.{List, ◌∷◌, ◌++◌}

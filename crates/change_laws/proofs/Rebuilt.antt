@@ -12,7 +12,7 @@ use Rattle.wire.specs.Bytes.{be16, two, part}
 use Rattle.wire.proofs.WireLaws.{by, pick_yes, pick_no, and_both, and_split}
 use Rattle.dss_head.specs.Heads.{length_of, type_byte, flags_byte}
 use Rattle.dss_frame.specs.declared.Rules.TheVariants.{Reader}
-use Rattle.dss_frame.specs.Segments.{Segment, whole, payload_of, end_of}
+use Rattle.dss_frame.specs.Segments.{Segment, payload_of, end_of}
 use Rattle.dss_frame.specs.Reading.{Frame, frame}
 use Rattle.dss_frame.specs.Written.{Sent, head_of, written}
 use Rattle.dss_laws.proofs.Framed.{Framed, single, several, segments_of, segments_end, framed_walk, Even}
