@@ -106,7 +106,7 @@ module _ (κs : Lfts 2) (d : DssReader) (run : Bor (List ℕ)) (room : MutBor (L
       (d, (run, (at_last room (room_read run.now room.now (read_at Reader run.now d.position)), tt)))
   next_frame_some = record { answers = refl; room_is = refl }
 
--- `read_all_frames` has no `Reads`, since a parameter is a reference to structs: its `clauses` are named. In any model they are the record.
+-- `read_all_frames` is named by its `clauses`: in any model they are the record.
 pub read_all_frames_says : {M : Type 1} {𝓤 : Ura M} (𝓛 : Logic 𝓤) (mem : Memory → SProp 𝓤) (run : Routine → Fun 𝓤) (κs : Lfts 3) (d : DssReader) (s : Bor (List ℕ)) (room : MutBor (List ℕ)) (row : MutBor (List DssFrame)) (r : FramesRead) (l : List ℕ) (k : List DssFrame)
     → (read_all_frames.clauses 𝓛 mem run κs (d, (s, (room, (row, tt))))).ensures tt r (d, (s, (at_last room l, (at_last row k, tt)))) ≡ fact 𝓤 (ReadAllFrames s.now d.position room.now row.now r l k)
 read_all_frames_says 𝓛 mem run κs d s room row r l k = refl
