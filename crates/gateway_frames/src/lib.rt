@@ -1,5 +1,7 @@
 // All frames at once for C and Rust: document 01, "Reading", `read_all_frames`. Slices, numbers and words go as in the crate
 // gateway, a reader as its position. The row of records is lent as words, ten a record.
+#![tactic(auto)]
+
 ghost use Rattle.gateway_words.specs.AnswerWords.{Answered};
 ghost use Rattle.gateway_frames.specs.FramesWords.{frames_words, ReadsAllFrames};
 ghost use Rattle.gateway_frames.specs.inner.LaidRecords.{Asks, TakenRecord};

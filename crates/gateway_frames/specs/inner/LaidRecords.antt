@@ -1,5 +1,5 @@
 -- The loop that lays records of frames down as words: where it stands, and what the row then holds.
-use Rattle.std.specs.Prelude.{ℕ, ◌*◌, ◌-◌, ◌≤◌, ◌≡◌, List, length}
+use Rattle.std.specs.Prelude.{ℕ, ◌*◌, ◌≤◌, ◌≡◌, List, length}
 use Rattle.wire.specs.Bytes.{splice, joined}
 use Rattle.dss_frame.specs.Frames.{all_frames}
 use Rattle.dss_frame.specs.declared.RowPlace.{RowPlace}
