@@ -1,5 +1,7 @@
 // The salvage reading for C and Rust: document 01, "Salvage reading". Slices, numbers and words go as in the crate gateway_head. The
 // row of entries is lent as words, ten a record.
+#![tactic(auto)]
+
 ghost use Rattle.std.specs.Prelude.{◌≡◌, ◌*◌, ◌≤◌, length};
 ghost use Rattle.wire.specs.Bytes.{splice, joined};
 ghost use Rattle.dss_frame.specs.inner.RowStart.{starts_at};
