@@ -1,5 +1,7 @@
 // Changing one parameter for C and Rust: document 02, W-204. Slices, numbers and words go as in the crate gateway_head. The result of each:
 // how many bytes.
+#![tactic(auto)]
+
 ghost use Rattle.std.specs.Prelude.{◌≡◌};
 ghost use Rattle.gateway_words.specs.AnswerWords.{laid_words, Answered};
 ghost use Rattle.ddm_change.specs.Change.{needed_of};
