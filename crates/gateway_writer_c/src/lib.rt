@@ -8,6 +8,8 @@ ghost use Rattle.dss_writer.specs.Writer.{fresh_writer, next_correlation};
 ghost use Rattle.gateway_writer.specs.WriterWords.{Sends, frame_of, writer_of, yes};
 ghost use Rattle.dss_head.specs.Heads.{bit, type_at};
 ghost use Rattle.gateway_words.specs.AnswerWords.{LaysInWords};
+ghost use Rattle.dss_head.specs.declared.DssType.TheVariants.{Request as asRequest, Object as asObject, NoReply as asNoReply};
+ghost use Rattle.dss_head.specs.declared.TypeFound.TheVariants.{Is as is};
 
 #[unsafe(no_mangle)]
 pub extern "C" fn lattrugone_frame_size(payload_len: usize) -> usize
