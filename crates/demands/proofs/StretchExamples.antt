@@ -1,5 +1,5 @@
 -- W-201: cases of document 01 that meet what Kept's lines ask, with the numbers that document 02 gives them; and what is ruled out.
-use Prim.Native.Nat.{ℕ, zero, suc, ◌<◌, ◌≤◌}
+use Prim.Native.Nat.{ℕ, zero, suc, ◌<◌}
 use native.Mathlib.Omega.{arith}
 use mathlib.Core.Path.{◌≡◌, refl}
 use mathlib.Core.Bool.{true, false}
