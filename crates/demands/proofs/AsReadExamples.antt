@@ -32,7 +32,7 @@ use Rattle.demands.proofs.ReadBack.{not_whole_lem}
 use Rattle.demands.proofs.AsRead.{salvages_as_read, tells_why}
 use Rattle.demands.specs.KeptMeaning.{SameInWords}
 use Rattle.demands.proofs.Kept.{exported_salvaged_as_read}
-use Rattle.demands.proofs.KeptExamples.{lending}
+use Rattle.demands.proofs.KeptExamples.{lending, lending_room}
 use Rattle.demands.proofs.SeveralRun.{sized, sendable}
 
 -- ---- a reply, and behind it a frame that isn't whole: of its first continuation, FFFF, only the length is there
@@ -105,20 +105,20 @@ left_none = ((λ m. let e : 0xFFFF ≤ 6 = m.lengths 0 (omega arith) in omega ar
 abbrev left_row : List ℕ
 left_row = 0 ∷ 0 ∷ 6 ∷ 0x02 ∷ 7 ∷ 0 ∷ 1 ∷ 0 ∷ 0 ∷ 6 ∷ 9 ∷ []
 
-left_reads : (κs : Lfts 4) → lattrugone_read_all_frames.Post κs (lending left, (0, (lending (9 ∷ []), (lending (replicate 11 9), (lending (replicate 8 9), tt)))))
-    0 (lending left, (0, (lending (9 ∷ []), (lending left_row, (lending (0 ∷ 6 ∷ 1 ∷ 0 ∷ 0 ∷ 0 ∷ 0 ∷ 0 ∷ []), tt)))))
+left_reads : (κs : Lfts 4) → lattrugone_read_all_frames.Post κs (lending left, (0, (lending_room (9 ∷ []), (lending_room (replicate 11 9), (lending_room (replicate 8 9), tt)))))
+    0 (lending left, (0, (lending_room (9 ∷ []), (lending_room left_row, (lending_room (0 ∷ 6 ∷ 1 ∷ 0 ∷ 0 ∷ 0 ∷ 0 ∷ 0 ∷ []), tt)))))
 unfolding splice laid all_frames frames_fuel read_at absorb absorb_fuel look payload_of end_of frame_walk continuations walk_fuel payloads_of frame_records joined
 left_reads κs = record { answers = record { number_is = refl; words_are = refl }; room_is = refl; row_is = refl }
 
-left_salvages : (κs : Lfts 4) → lattrugone_salvage.Post κs (lending left, (lending (9 ∷ []), (lending (replicate 11 9), (lending (replicate 8 9), tt))))
-    0 (lending left, (lending (9 ∷ []), (lending left_row, (lending (0 ∷ 0 ∷ 1 ∷ 0 ∷ 6 ∷ 0 ∷ 0 ∷ 0 ∷ []), tt))))
+left_salvages : (κs : Lfts 4) → lattrugone_salvage.Post κs (lending left, (lending_room (9 ∷ []), (lending_room (replicate 11 9), (lending_room (replicate 8 9), tt))))
+    0 (lending left, (lending_room (9 ∷ []), (lending_room left_row, (lending_room (0 ∷ 0 ∷ 1 ∷ 0 ∷ 6 ∷ 0 ∷ 0 ∷ 0 ∷ []), tt))))
 unfolding splice laid salvaged salvage_fuel read_at absorb absorb_fuel look payload_of end_of frame_walk continuations walk_fuel salvaged_bytes salvaged_row joined
 left_salvages κs = record { answers = record { number_is = refl; words_are = refl }; room_is = refl; row_is = refl }
 
 pub left_same : (κs κs' : Lfts 4) → SameInWords 1 0 6 0 (0 ∷ 6 ∷ 1 ∷ 0 ∷ 0 ∷ 0 ∷ 0 ∷ 0 ∷ []) (9 ∷ []) left_row 0 (0 ∷ 0 ∷ 1 ∷ 0 ∷ 6 ∷ 0 ∷ 0 ∷ 0 ∷ []) (9 ∷ []) left_row
 unfolding reply payloads_of payload_of
 left_same κs κs' =
-    exported_salvaged_as_read κs κs' (lending left) (lending (9 ∷ [])) (lending (replicate 11 9)) (lending (replicate 8 9)) (lending (9 ∷ [])) (lending (replicate 11 9)) (lending (replicate 8 9))
+    exported_salvaged_as_read κs κs' (lending left) (lending_room (9 ∷ [])) (lending_room (replicate 11 9)) (lending_room (replicate 8 9)) (lending_room (9 ∷ [])) (lending_room (replicate 11 9)) (lending_room (replicate 8 9))
     0 0 (9 ∷ []) left_row (0 ∷ 6 ∷ 1 ∷ 0 ∷ 0 ∷ 0 ∷ 0 ∷ 0 ∷ []) (9 ∷ []) left_row (0 ∷ 0 ∷ 1 ∷ 0 ∷ 6 ∷ 0 ∷ 0 ∷ 0 ∷ [])
     (reply ∷ []) 6 left_read left_none refl refl (omega arith) (omega arith) (left_reads κs) (left_salvages κs')
 

@@ -17,7 +17,7 @@ use Rattle.dss_reader.specs.declared.FrameRead.{FrameRead}
 use Rattle.dss_reader.specs.declared.FrameRead.TheVariants.{Refused as NotRead}
 use Rattle.demands.proofs.DeadEdges.{fulls, several, behind_reply}
 use Rattle.demands.proofs.Kept.{read_refused, dead_again, exported_dead_again, exported_taken_by_end}
-use Rattle.demands.proofs.KeptExamples.{lending}
+use Rattle.demands.proofs.KeptExamples.{lending, lending_room}
 
 abbrev at_length : Refused
 at_length = record { why = DeadContinuation; place = 32767 }
@@ -28,13 +28,13 @@ more = 0xC1 ∷ 0xC1 ∷ 0xC1 ∷ []
 -- the reader stays at 0, not at the refusal's place
 pub stays_there : (κs : Lfts 2) → (◌≡◌ {A = List ℕ} (9 ∷ []) (9 ∷ [])) × (stands_at 0 ≡ stands_at 0)
 unfolding several fulls splice laid read_at frame_walk continuations walk_fuel
-stays_there κs = read_refused κs (lending (9 ∷ [])) at_length (9 ∷ []) (stands_at 0) (stands_at 0) (lending (several 0xD0 0 (0 ∷ 1 ∷ []))) (record { answers = refl; room_is = refl })
+stays_there κs = read_refused κs (lending_room (9 ∷ [])) at_length (9 ∷ []) (stands_at 0) (stands_at 0) (lending (several 0xD0 0 (0 ∷ 1 ∷ []))) (record { answers = refl; room_is = refl })
 
 pub dead_twice : (κs κs' : Lfts 2)
     → (stands_at 0 ≡ stands_at 0) × (◌≡◌ {A = FrameRead} (NotRead at_length (stands_at 0)) (NotRead at_length (stands_at 0))) × (◌≡◌ {A = List ℕ} (8 ∷ 8 ∷ []) (8 ∷ 8 ∷ []))
 unfolding several fulls splice laid read_at frame_walk continuations walk_fuel
 dead_twice κs κs' =
-    dead_again κs κs' (stands_at 0) (stands_at 0) (lending (several 0xD0 0 (0 ∷ 1 ∷ []))) (lending (several 0xD0 0 (0 ∷ 1 ∷ []) ++ more)) (lending (9 ∷ [])) (lending (8 ∷ 8 ∷ [])) more
+    dead_again κs κs' (stands_at 0) (stands_at 0) (lending (several 0xD0 0 (0 ∷ 1 ∷ []))) (lending (several 0xD0 0 (0 ∷ 1 ∷ []) ++ more)) (lending_room (9 ∷ [])) (lending_room (8 ∷ 8 ∷ [])) more
     at_length (NotRead at_length (stands_at 0)) (9 ∷ []) (8 ∷ 8 ∷ []) refl refl (record { answers = refl; room_is = refl }) (record { answers = refl; room_is = refl })
 
 -- its words: 16, and the place of the length
@@ -44,7 +44,7 @@ dead_words = 16 ∷ 32767 ∷ replicate 6 0
 pub dead_twice_in_words : (κs κs' : Lfts 3) → (◌≡◌ {A = ℕ} 16 16) × (take 8 dead_words ≡ take 8 dead_words) × (◌≡◌ {A = List ℕ} (8 ∷ 8 ∷ []) (8 ∷ 8 ∷ []))
 unfolding several fulls splice laid read_at frame_walk continuations walk_fuel
 dead_twice_in_words κs κs' =
-    exported_dead_again κs κs' 0 (lending (several 0xD0 0 (0 ∷ 1 ∷ []))) (lending (several 0xD0 0 (0 ∷ 1 ∷ []) ++ more)) (lending (9 ∷ [])) (lending (8 ∷ 8 ∷ [])) (lending (replicate 8 9)) (lending (replicate 8 9)) more
+    exported_dead_again κs κs' 0 (lending (several 0xD0 0 (0 ∷ 1 ∷ []))) (lending (several 0xD0 0 (0 ∷ 1 ∷ []) ++ more)) (lending_room (9 ∷ [])) (lending_room (8 ∷ 8 ∷ [])) (lending_room (replicate 8 9)) (lending_room (replicate 8 9)) more
     (9 ∷ []) dead_words 16 (8 ∷ 8 ∷ []) dead_words refl (omega arith) (omega arith)
     (record { answers = record { number_is = refl; words_are = refl }; room_is = refl }) (record { answers = record { number_is = refl; words_are = refl }; room_is = refl })
 
@@ -57,7 +57,7 @@ reply_words = 0 ∷ 6 ∷ 6 ∷ 0x02 ∷ 7 ∷ 0 ∷ 1 ∷ 0 ∷ []
 pub taken_before_dead : (κs κs' : Lfts 3) (κs'' : Lfts 2) → (◌≡◌ {A = ℕ} 0 0) × (take 8 reply_words ≡ take 8 reply_words) × (◌≡◌ {A = List ℕ} (9 ∷ []) (9 ∷ []))
 unfolding behind_reply several fulls splice laid frame_end read_at absorb absorb_fuel look payload_of end_of frame_walk continuations walk_fuel
 taken_before_dead κs κs' κs'' =
-    exported_taken_by_end κs κs' κs'' 0 (lending behind_reply) (lending (behind_reply ++ more)) (lending (9 ∷ [])) (lending (9 ∷ [])) (lending (replicate 8 9)) (lending (replicate 8 9)) (lending []) more
+    exported_taken_by_end κs κs' κs'' 0 (lending behind_reply) (lending (behind_reply ++ more)) (lending_room (9 ∷ [])) (lending_room (9 ∷ [])) (lending_room (replicate 8 9)) (lending_room (replicate 8 9)) (lending_room []) more
     (9 ∷ []) reply_words [] 16 0 (9 ∷ []) reply_words refl refl (omega arith) (omega arith)
     (record { answers = record { number_is = refl; words_are = refl }; room_is = refl }) (record { number_is = refl; words_are = refl }) (inr refl)
     (record { answers = record { number_is = refl; words_are = refl }; room_is = refl })

@@ -1,5 +1,5 @@
 -- Document 01, "Both sides of each edge", computed at their real sizes, and the same under salvage's rules, which W-205 changes at one.
-use Prim.Native.Nat.{ℕ, ◌+◌, ◌-◌, ◌^◌}
+use Prim.Native.Nat.{ℕ, ◌-◌, ◌^◌}
 use mathlib.Core.Path.{◌≡◌, refl}
 use mathlib.Core.Bool.{false}
 use mathlib.Core.List.{List, [], ◌∷◌}

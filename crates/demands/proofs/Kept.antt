@@ -72,7 +72,7 @@ use Rattle.gateway_frames.proofs.lattrugone_read_all_frames.Reads as lattrugone_
 use Rattle.gateway_salvage.specs.SalvageWords.{SalvagesInWords}
 use Rattle.gateway_salvage.proofs.lattrugone_salvage.Reads as lattrugone_salvage
 use Rattle.layouts.specs.DssLayout.{Structure, Allowed, Dss, FullLast}
-use Rattle.demands.specs.Demands.{Sendable, Unreadable, ReadsEverySize, Item, run}
+use Rattle.demands.specs.Demands.{Unreadable, ReadsEverySize, Item, run}
 use Rattle.demands.specs.AllFrames.{AllAlone}
 use Rattle.demands.specs.FourTypes.{four_types, four_heads, read_by, all_by, TypesAsFour, FiveRefused, SameOrFive, HeadsAsFour, ReadsAsFour, AllAsFour}
 use Rattle.demands.specs.NoReply.{RefusesSpoilt}
@@ -96,7 +96,7 @@ use Rattle.demands.proofs.FourTypesCalls.{from_byte_four, parse_four, next_frame
 use Rattle.demands.proofs.SpoiltFrames.{refuses_spoilt}
 use Rattle.demands.specs.KeptLists.{payloads, AllBack, all_bytes, Recovered}
 use Rattle.demands.specs.KeptCalls.{asked_of, Calls, asked_in_words, ExportedCalls}
-use Rattle.demands.specs.KeptMeaning.{mark_behind, ReadAgain, NotReadAgain, ReadAgainInWords, NotReadAgainInWords, AllBackInWords, RecoveredInWords, RefusedInWords, SameInWords, StructureBack, StructureBackInWords, LaidInWords, not_yet, RefusedAs, AnsweredAs, AnsweredInWordsAs, AllAnsweredInWordsAs}
+use Rattle.demands.specs.KeptMeaning.{ReadAgain, NotReadAgain, ReadAgainInWords, NotReadAgainInWords, AllBackInWords, RecoveredInWords, RefusedInWords, SameInWords, StructureBack, StructureBackInWords, LaidInWords, not_yet, RefusedAs, AnsweredAs, AnsweredInWordsAs, AllAnsweredInWordsAs}
 use Rattle.demands.proofs.ReaderClauses.{read_all_frames_back}
 use Rattle.demands.proofs.SalvageClauses.{salvage_recovers, salvage_refuses}
 use Rattle.demands.proofs.KeptFrame.{read_again, not_read_again, read_again_words, not_read_again_words}
@@ -125,7 +125,7 @@ module _ (κs : Lfts 2) (room : MutBor (List ℕ)) (why : Refused) (after : List
       → after ≡ room.now
   take_refused rules s at p = takes_kept rules s.now at room.now why after p
 
--- A function over a row of records has no `Post`. Its own clause is named, and in any model of the logic it entails the fact.
+-- A function over a row of records is named by its own clause: in any model of the logic it entails the fact.
 module _ {M : Type 1} {𝓤 : Ura M} (𝓛 : Logic 𝓤) (mem : Memory → SProp 𝓤) (routines : Routine → Fun 𝓤) (κs : Lfts 3) (s : Bor (List ℕ)) (room : MutBor (List ℕ)) (why : Refused) (room_after : List ℕ) where
   pub all_read_refused : (row : MutBor (List DssFrame)) (reader left : DssReader) (row_after : List DssFrame)
       → ent 𝓤 ((read_all_frames.clauses 𝓛 mem routines κs (reader, (s, (room, (row, tt))))).ensures tt (NoneRead why left) (reader, (s, (at_last room room_after, (at_last row row_after, tt)))))

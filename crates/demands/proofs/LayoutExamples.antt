@@ -173,8 +173,11 @@ reserved_set b h w l = omega (arith, (told_at l).reserved)
 
 -- a first length of 8000 to FFFE
 pub length_between : (b : List ℕ) → 0x8000 ≤ be16 b 0 → be16 b 0 < 0xFFFF → NoLayout b
-length_between b lo hi w (one a h) = omega (arith, two_back (length w.payload + 6) (rest w ++ w.payload) (omega arith))
-length_between b lo hi w (several a x more bytes e h c) = omega arith
+length_between b lo hi w l = go w b l lo hi
+  where
+    go : (w : Structure) (b : List ℕ) → Dss w b → 0x8000 ≤ be16 b 0 → be16 b 0 < 0xFFFF → ⊥
+    go w b (one a h) lo hi = omega (arith, two_back (length w.payload + 6) (rest w ++ w.payload) (omega arith))
+    go w b (several a x more bytes e h c) lo hi = omega arith
 
 -- What is written where the volume doesn't allow it has no structure's layout.
 same_written : (f : Sent) (n : ℕ) (x b : List ℕ) → b ≡ two n ++ (0xD0 ∷ (type_byte f.type + flags_byte (head_of f n).flags) ∷ x) → f.same ≡ true → f.chained ≡ false → NoLayout b

@@ -11,7 +11,7 @@ use Rattle.dss_frame.specs.Salvage.{salvaged, salvage_fuel}
 use Rattle.dss_frame.specs.Written.{written, chunks, chunks_fuel}
 use Rattle.dss_frame.specs.declared.Rules.TheVariants.{Reader}
 use Rattle.dss_salvage.specs.SalvageEntries.{salvaged_row, salvaged_bytes}
-use Rattle.demands.proofs.Table.{Asked, reads, salvages, Outcome, frame, refused, Came, one, plain_case, p2, handed, of_refused, of_read, of_entry, blank, came_of}
+use Rattle.demands.proofs.Table.{Asked, reads, salvages, frame, refused, Came, one, plain_case, p2, handed, of_refused, of_read, of_entry, blank, came_of}
 use Rattle.demands.proofs.Edges.{full, answer}
 
 -- The reader takes a frame behind a full last chunk for one chunk more: a written payload of 65,526 bytes with `0006D0020007` behind it

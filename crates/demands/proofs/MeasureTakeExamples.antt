@@ -30,7 +30,7 @@ use Rattle.demands.proofs.MeasureTake.{gives_refuses, gives_same, by_run_alone}
 use Rattle.demands.proofs.Kept.{take_refused, exported_take_refused}
 use Rattle.demands.proofs.KeptRequests.{taken_as_measured, taken_by_run_alone, extent_as_measured, salvage_measure_stays, next_frame_as_taken, exported_taken_as_measured, exported_taken_by_run_alone, exported_salvage_measure_stays, exported_next_frame_as_taken}
 use Rattle.demands.specs.KeptMeaning.{RefusedInWords}
-use Rattle.demands.proofs.KeptExamples.{lending}
+use Rattle.demands.proofs.KeptExamples.{lending, lending_room}
 use Rattle.demands.proofs.StretchExamples.{p9}
 
 -- of P9, whose second segment the first absorbs: two segments, position 14; so much is said to be its payload's length
@@ -50,37 +50,37 @@ magic = record { why = InvalidMagic 0; place = 6 }
 -- measured, then taken into a room of just that length; of one byte less; and P8, which the reader's rules refuse
 pub exactly : (κs : Lfts 1) (κs' : Lfts 2) → TakenAs (Gives (measured 2)) (payload_at Reader p9 0) 0 (9 ∷ 9 ∷ []) (Gives (measured 2)) (0xAA ∷ 0xBB ∷ [])
 unfolding measured_at splice laid read_at absorb absorb_fuel look payload_of end_of frame_walk continuations walk_fuel
-exactly κs κs' = taken_as_measured Reader (lending p9) 0 κs κs' (Gives (measured 2)) (lending (9 ∷ 9 ∷ [])) (Gives (measured 2)) (0xAA ∷ 0xBB ∷ []) refl (record { answers = refl; room_is = refl })
+exactly κs κs' = taken_as_measured Reader (lending p9) 0 κs κs' (Gives (measured 2)) (lending_room (9 ∷ 9 ∷ [])) (Gives (measured 2)) (0xAA ∷ 0xBB ∷ []) refl (record { answers = refl; room_is = refl })
 
 pub one_less : (κs : Lfts 1) (κs' : Lfts 2) → TakenAs (Gives (measured 2)) (payload_at Reader p9 0) 0 (9 ∷ []) (Refuses (no_room 0 2 0)) (9 ∷ [])
 unfolding measured_at splice laid read_at absorb absorb_fuel look payload_of end_of frame_walk continuations walk_fuel
-one_less κs κs' = taken_as_measured Reader (lending p9) 0 κs κs' (Gives (measured 2)) (lending (9 ∷ [])) (Refuses (no_room 0 2 0)) (9 ∷ []) refl (record { answers = refl; room_is = refl })
+one_less κs κs' = taken_as_measured Reader (lending p9) 0 κs κs' (Gives (measured 2)) (lending_room (9 ∷ [])) (Refuses (no_room 0 2 0)) (9 ∷ []) refl (record { answers = refl; room_is = refl })
 
 pub refused_alike : (κs : Lfts 1) (κs' : Lfts 2) → TakenAs (Refuses magic) (payload_at Reader p8 0) 0 (9 ∷ []) (Refuses magic) (9 ∷ [])
 unfolding measured_at splice laid read_at absorb absorb_fuel look payload_of end_of frame_walk continuations walk_fuel
-refused_alike κs κs' = taken_as_measured Reader (lending p8) 0 κs κs' (Refuses magic) (lending (9 ∷ [])) (Refuses magic) (9 ∷ []) refl (record { answers = refl; room_is = refl })
+refused_alike κs κs' = taken_as_measured Reader (lending p8) 0 κs κs' (Refuses magic) (lending_room (9 ∷ [])) (Refuses magic) (9 ∷ []) refl (record { answers = refl; room_is = refl })
 
 pub not_taken : (κs : Lfts 2) → ◌≡◌ {A = List ℕ} (9 ∷ []) (9 ∷ [])
 unfolding splice laid read_at absorb absorb_fuel look payload_of end_of frame_walk continuations walk_fuel
-not_taken κs = take_refused κs (lending (9 ∷ [])) (no_room 0 2 0) (9 ∷ []) Reader (lending p9) 0 (record { answers = refl; room_is = refl })
+not_taken κs = take_refused κs (lending_room (9 ∷ [])) (no_room 0 2 0) (9 ∷ []) Reader (lending p9) 0 (record { answers = refl; room_is = refl })
 
 -- into two rooms, of which one is longer and holds other bytes; one that is too short beside it; and two that are too short
 pub two_rooms : (κs κs' : Lfts 2) → ByRunAlone 0 (Gives (measured 2)) (0xAA ∷ 0xBB ∷ []) (Gives (measured 2)) (0xAA ∷ 0xBB ∷ 8 ∷ [])
 unfolding splice laid read_at absorb absorb_fuel look payload_of end_of frame_walk continuations walk_fuel
 two_rooms κs κs' =
-    taken_by_run_alone Reader (lending p9) 0 κs κs' (lending (9 ∷ 9 ∷ [])) (lending (8 ∷ 8 ∷ 8 ∷ [])) (Gives (measured 2)) (Gives (measured 2)) (0xAA ∷ 0xBB ∷ []) (0xAA ∷ 0xBB ∷ 8 ∷ [])
+    taken_by_run_alone Reader (lending p9) 0 κs κs' (lending_room (9 ∷ 9 ∷ [])) (lending_room (8 ∷ 8 ∷ 8 ∷ [])) (Gives (measured 2)) (Gives (measured 2)) (0xAA ∷ 0xBB ∷ []) (0xAA ∷ 0xBB ∷ 8 ∷ [])
     (record { answers = refl; room_is = refl }) (record { answers = refl; room_is = refl })
 
 pub one_too_short : (κs κs' : Lfts 2) → ByRunAlone 0 (Refuses (no_room 0 2 0)) (9 ∷ []) (Gives (measured 2)) (0xAA ∷ 0xBB ∷ [])
 unfolding splice laid read_at absorb absorb_fuel look payload_of end_of frame_walk continuations walk_fuel
 one_too_short κs κs' =
-    taken_by_run_alone Reader (lending p9) 0 κs κs' (lending (9 ∷ [])) (lending (9 ∷ 9 ∷ [])) (Refuses (no_room 0 2 0)) (Gives (measured 2)) (9 ∷ []) (0xAA ∷ 0xBB ∷ [])
+    taken_by_run_alone Reader (lending p9) 0 κs κs' (lending_room (9 ∷ [])) (lending_room (9 ∷ 9 ∷ [])) (Refuses (no_room 0 2 0)) (Gives (measured 2)) (9 ∷ []) (0xAA ∷ 0xBB ∷ [])
     (record { answers = refl; room_is = refl }) (record { answers = refl; room_is = refl })
 
 pub both_too_short : (κs κs' : Lfts 2) → ByRunAlone 0 (Refuses (no_room 0 2 0)) (9 ∷ []) (Refuses (no_room 0 2 0)) []
 unfolding splice laid read_at absorb absorb_fuel look payload_of end_of frame_walk continuations walk_fuel
 both_too_short κs κs' =
-    taken_by_run_alone Reader (lending p9) 0 κs κs' (lending (9 ∷ [])) (lending []) (Refuses (no_room 0 2 0)) (Refuses (no_room 0 2 0)) (9 ∷ []) []
+    taken_by_run_alone Reader (lending p9) 0 κs κs' (lending_room (9 ∷ [])) (lending_room []) (Refuses (no_room 0 2 0)) (Refuses (no_room 0 2 0)) (9 ∷ []) []
     (record { answers = refl; room_is = refl }) (record { answers = refl; room_is = refl })
 
 pub spans : (κs κs' : Lfts 1) → ◌≡◌ {A = Extent} (Spans 2 14) (Spans 2 14)
@@ -90,7 +90,7 @@ spans κs κs' = extent_as_measured Reader (lending p9) 0 κs κs' (Gives (measu
 pub next_taken : (κs κs' : Lfts 2) → (read_of 0 (Gives (measured 2)) ≡ read_of 0 (Gives (measured 2))) × (◌≡◌ {A = List ℕ} (0xAA ∷ 0xBB ∷ []) (0xAA ∷ 0xBB ∷ []))
 unfolding splice laid read_at absorb absorb_fuel look payload_of end_of frame_walk continuations walk_fuel
 next_taken κs κs' =
-    next_frame_as_taken κs κs' (stands_at 0) (lending p9) (lending (9 ∷ 9 ∷ [])) (read_of 0 (Gives (measured 2))) (0xAA ∷ 0xBB ∷ []) (Gives (measured 2)) (0xAA ∷ 0xBB ∷ [])
+    next_frame_as_taken κs κs' (stands_at 0) (lending p9) (lending_room (9 ∷ 9 ∷ [])) (read_of 0 (Gives (measured 2))) (0xAA ∷ 0xBB ∷ []) (Gives (measured 2)) (0xAA ∷ 0xBB ∷ [])
     (record { answers = refl; room_is = refl }) (record { answers = refl; room_is = refl })
 
 -- `0006D1020007`: 2 at its own first byte
@@ -116,47 +116,47 @@ p8_words = 0 ∷ 6 ∷ 6 ∷ 0x02 ∷ 7 ∷ 0 ∷ 1 ∷ 0 ∷ []
 pub exactly_in_words : (κs : Lfts 2) (κs' : Lfts 3) → TakenInWords (payload_at Reader p9 0) 0 0 p9_words (9 ∷ 9 ∷ []) 0 p9_words (0xAA ∷ 0xBB ∷ [])
 unfolding measured_at splice laid read_at absorb absorb_fuel look payload_of end_of frame_walk continuations walk_fuel
 exactly_in_words κs κs' =
-    exported_taken_as_measured 0 (lending p9) 0 κs κs' (lending (replicate 8 9)) (lending (replicate 8 8)) (lending (9 ∷ 9 ∷ [])) 0 p9_words 0 (0xAA ∷ 0xBB ∷ []) p9_words (omega arith) (omega arith)
+    exported_taken_as_measured 0 (lending p9) 0 κs κs' (lending_room (replicate 8 9)) (lending_room (replicate 8 8)) (lending_room (9 ∷ 9 ∷ [])) 0 p9_words 0 (0xAA ∷ 0xBB ∷ []) p9_words (omega arith) (omega arith)
     (record { number_is = refl; words_are = refl }) (record { answers = record { number_is = refl; words_are = refl }; room_is = refl })
 
 pub refused_in_words : (κs : Lfts 2) (κs' : Lfts 3) → TakenInWords (payload_at Reader p8 0) 0 2 (2 ∷ 6 ∷ replicate 6 0) [] 2 (2 ∷ 6 ∷ replicate 6 0) []
 unfolding measured_at splice laid read_at absorb absorb_fuel look payload_of end_of frame_walk continuations walk_fuel
 refused_in_words κs κs' =
-    exported_taken_as_measured 0 (lending p8) 0 κs κs' (lending (replicate 8 9)) (lending (replicate 8 8)) (lending []) 2 (2 ∷ 6 ∷ replicate 6 0) 2 [] (2 ∷ 6 ∷ replicate 6 0) (omega arith) (omega arith)
+    exported_taken_as_measured 0 (lending p8) 0 κs κs' (lending_room (replicate 8 9)) (lending_room (replicate 8 8)) (lending_room []) 2 (2 ∷ 6 ∷ replicate 6 0) 2 [] (2 ∷ 6 ∷ replicate 6 0) (omega arith) (omega arith)
     (record { number_is = refl; words_are = refl }) (record { answers = record { number_is = refl; words_are = refl }; room_is = refl })
 
 pub salvaged_in_words : (κs : Lfts 2) (κs' : Lfts 3)
     → TakenInWords (payload_at (rules_of 1) p8 0) 0 0 p8_words [] 0 p8_words [] × TakenInWords (payload_at (rules_of 255) p8 0) 0 0 p8_words [] 0 p8_words []
 unfolding measured_at splice laid read_at absorb absorb_fuel look payload_of end_of frame_walk continuations walk_fuel
 salvaged_in_words κs κs' = (
-  exported_taken_as_measured 1 (lending p8) 0 κs κs' (lending (replicate 8 9)) (lending (replicate 8 8)) (lending []) 0 p8_words 0 [] p8_words (omega arith) (omega arith)
+  exported_taken_as_measured 1 (lending p8) 0 κs κs' (lending_room (replicate 8 9)) (lending_room (replicate 8 8)) (lending_room []) 0 p8_words 0 [] p8_words (omega arith) (omega arith)
       (record { number_is = refl; words_are = refl }) (record { answers = record { number_is = refl; words_are = refl }; room_is = refl }),
-  exported_taken_as_measured 255 (lending p8) 0 κs κs' (lending (replicate 8 9)) (lending (replicate 8 8)) (lending []) 0 p8_words 0 [] p8_words (omega arith) (omega arith)
+  exported_taken_as_measured 255 (lending p8) 0 κs κs' (lending_room (replicate 8 9)) (lending_room (replicate 8 8)) (lending_room []) 0 p8_words 0 [] p8_words (omega arith) (omega arith)
       (record { number_is = refl; words_are = refl }) (record { answers = record { number_is = refl; words_are = refl }; room_is = refl }),
 )
 
 pub own_refused_in_words : (κs : Lfts 2) → ◌≡◌ {A = ℕ} 0 0
 unfolding measured_at splice laid read_at absorb absorb_fuel look payload_of end_of frame_walk continuations walk_fuel
 own_refused_in_words κs =
-    exported_salvage_measure_stays 7 (lending own) 0 (λ e. omega arith) κs (lending (replicate 8 9)) 2 (2 ∷ 0 ∷ 209 ∷ replicate 5 0) (omega arith) (record { number_is = refl; words_are = refl }) (λ e. omega arith) (λ e. omega arith)
+    exported_salvage_measure_stays 7 (lending own) 0 (λ e. omega arith) κs (lending_room (replicate 8 9)) 2 (2 ∷ 0 ∷ 209 ∷ replicate 5 0) (omega arith) (record { number_is = refl; words_are = refl }) (λ e. omega arith) (λ e. omega arith)
 
 pub two_rooms_in_words : (κs κs' : Lfts 3) → ByRunAloneInWords 0 9 needs_two (9 ∷ []) 0 p9_words (0xAA ∷ 0xBB ∷ 8 ∷ [])
 unfolding splice laid read_at absorb absorb_fuel look payload_of end_of frame_walk continuations walk_fuel
 two_rooms_in_words κs κs' =
-    exported_taken_by_run_alone 0 (lending p9) 0 κs κs' (lending (replicate 8 9)) (lending (replicate 8 8)) (lending (9 ∷ [])) (lending (8 ∷ 8 ∷ 8 ∷ [])) 9 (9 ∷ []) needs_two 0 (0xAA ∷ 0xBB ∷ 8 ∷ []) p9_words
+    exported_taken_by_run_alone 0 (lending p9) 0 κs κs' (lending_room (replicate 8 9)) (lending_room (replicate 8 8)) (lending_room (9 ∷ [])) (lending_room (8 ∷ 8 ∷ 8 ∷ [])) 9 (9 ∷ []) needs_two 0 (0xAA ∷ 0xBB ∷ 8 ∷ []) p9_words
     (omega arith) (omega arith) (record { answers = record { number_is = refl; words_are = refl }; room_is = refl })
     (record { answers = record { number_is = refl; words_are = refl }; room_is = refl })
 
 pub not_taken_in_words : (κs : Lfts 3) → RefusedInWords (replicate 8 9) 9 needs_two × (◌≡◌ {A = List ℕ} (9 ∷ []) (9 ∷ []))
 unfolding splice laid read_at absorb absorb_fuel look payload_of end_of frame_walk continuations walk_fuel
 not_taken_in_words κs =
-    exported_take_refused (lending (replicate 8 9)) 9 needs_two (λ e. omega arith) (lending (9 ∷ [])) (9 ∷ []) κs 7 (lending p9) 0
+    exported_take_refused (lending_room (replicate 8 9)) 9 needs_two (λ e. omega arith) (lending_room (9 ∷ [])) (9 ∷ []) κs 7 (lending p9) 0
     (record { answers = record { number_is = refl; words_are = refl }; room_is = refl })
 
 pub next_taken_in_words : (κs κs' : Lfts 3) → (◌≡◌ {A = ℕ} 0 0) × (p9_words ≡ p9_words) × (◌≡◌ {A = List ℕ} (0xAA ∷ 0xBB ∷ []) (0xAA ∷ 0xBB ∷ []))
 unfolding splice laid read_at absorb absorb_fuel look payload_of end_of frame_walk continuations walk_fuel
 next_taken_in_words κs κs' =
-    exported_next_frame_as_taken κs κs' (lending p9) 0 (lending (9 ∷ 9 ∷ [])) (lending (replicate 8 9)) 0 (0xAA ∷ 0xBB ∷ []) p9_words 0 (0xAA ∷ 0xBB ∷ []) p9_words
+    exported_next_frame_as_taken κs κs' (lending p9) 0 (lending_room (9 ∷ 9 ∷ [])) (lending_room (replicate 8 9)) 0 (0xAA ∷ 0xBB ∷ []) p9_words 0 (0xAA ∷ 0xBB ∷ []) p9_words
     (record { answers = record { number_is = refl; words_are = refl }; room_is = refl }) (record { answers = record { number_is = refl; words_are = refl }; room_is = refl })
 
 -- ---- what is ruled out, of any measuring and taking

@@ -21,7 +21,7 @@ use Rattle.dss_head.specs.declared.HeadFound.{HeadFound}
 use Rattle.dss_frame.specs.Rules.{chunk_under}
 use Rattle.dss_frame.specs.declared.Rules.{Rules}
 use Rattle.dss_frame.specs.Segments.{Segment, Walk, whole, short, dead, behind, continuation, first, step, continuations, frame_walk}
-use Rattle.dss_frame.specs.Reading.{Read, frame, refused, absorb, read_head, read_walk, read_at, position_after}
+use Rattle.dss_frame.specs.Reading.{Read, refused, absorb, read_head, read_walk, read_at, position_after}
 use Rattle.dss_laws.proofs.RawLengths.{chunk_last, chunk_alive}
 use Rattle.dss_laws.proofs.Continuations.{continuations_step, continuations_last, continuations_full}
 use Rattle.demands.specs.Mending.{waits, Mended, StopsWaiting}

@@ -4,7 +4,7 @@ use Prim.Native.Nat.{ℕ}
 use mathlib.Core.Path.{◌≡◌, refl}
 use mathlib.Core.Bool.{true, false}
 use mathlib.Core.List.{List, [], ◌∷◌, ◌++◌, map}
-use lib.ListN.{length, replicate}
+use lib.ListN.{replicate}
 use Rattle.wire.specs.Bytes.{splice, laid}
 use Rattle.answer.specs.declared.Refusal.TheVariants.{InvalidDssType}
 use Rattle.dss_head.specs.Heads.{type_at}

@@ -1,5 +1,5 @@
--- Demand 3 over the contract of `salvage` itself, and what that contract says of every run. A function over a row of records has no
--- `Reads`: its own clause is named, and in any model of the logic it entails the fact.
+-- Demand 3 over the contract of `salvage` itself, and what that contract says of every run. It is a function over a row of
+-- records: its own clause is named, and in any model of the logic it entails the fact.
 use Prim.Native.Nat.{ℕ, ◌≤◌}
 use native.Mathlib.Omega.{arith}
 use mathlib.Core.Path.{◌≡◌, sym, ap, subst, ◌∙◌}

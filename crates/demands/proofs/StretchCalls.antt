@@ -10,7 +10,6 @@ use borrow.Author.Tests.{leb-true}
 use Rattle.wire.specs.Bytes.{splice}
 use Rattle.wire.proofs.WireLaws.{by, picked, pick_yes, pick_no}
 use Rattle.wire.proofs.Splicing.{splice_tail, laid_fits}
-use Rattle.answer.specs.declared.Refused.{Refused}
 use Rattle.dss_frame.specs.declared.Rules.TheVariants.{Reader}
 use Rattle.dss_frame.specs.declared.DssFrame.{DssFrame}
 use Rattle.dss_frame.specs.Segments.{payload_of, end_of}
@@ -18,30 +17,28 @@ use Rattle.dss_frame.specs.Reading.{Frame, Read, frame, refused, read_at}
 use Rattle.dss_frame.specs.Frames.{AllRead, frames, refused_all, all_frames}
 use Rattle.dss_frame.specs.FrameRecords.{frame_record, frame_records, payloads_of}
 use Rattle.dss_frame.specs.Salvage.{salvaged}
-use Rattle.dss_frame.specs.Salvage as reading
 use Rattle.dss_frame.specs.Following.{Follow, ComesFrom, Each}
 use Rattle.dss_take.specs.Take.{room_read}
 use Rattle.dss_reader.specs.declared.DssReader.{DssReader}
 use Rattle.dss_reader.specs.declared.FrameRead.{FrameRead}
-use Rattle.dss_reader.specs.declared.FrameRead.TheVariants.{Frame as Hands, Refused as NotRead}
+use Rattle.dss_reader.specs.declared.FrameRead.TheVariants.{Frame as Hands}
 use Rattle.dss_reader.specs.declared.FramesRead.{FramesRead}
-use Rattle.dss_reader.specs.declared.FramesRead.TheVariants.{Frames, Refused as NoneRead}
+use Rattle.dss_reader.specs.declared.FramesRead.TheVariants.{Frames}
 use Rattle.dss_reader.specs.Reader.{stands_at, given_frame, NextFrame, frames_fit, given_frames, room_all, row_all, ReadAllFrames}
 use Rattle.dss_salvage.specs.SalvageEntries.{starts_in, ends_in, salvaged_bytes, salvaged_row}
-use Rattle.dss_salvage_call.specs.SalvageCall.{entries_fit, SalvagesRun}
+use Rattle.dss_salvage_call.specs.SalvageCall.{entries_fit}
 use Rattle.dss_salvage.specs.declared.Entry.{Entry}
 use Rattle.dss_salvage.specs.declared.Entry.TheVariants.{Frame as Framed, Refused as Refuses}
 use Rattle.dss_salvage.specs.declared.SalvageEntry.{SalvageEntry}
 use Rattle.dss_salvage.specs.declared.Salvaged.{Salvaged}
-use Rattle.dss_salvage.specs.declared.Salvaged.TheVariants.{Done, Refused as NotSalvaged}
-use Rattle.gateway_words.specs.AnswerWords.{refusal_words, Answered}
+use Rattle.gateway_words.specs.AnswerWords.{Answered}
 use Rattle.gateway_row.specs.RowWords.{frame_at, record_words, record_len, places, cut}
 use Rattle.gateway_row.proofs.RecordBack.{numbered, row_says}
 use Rattle.gateway_reader.specs.ReaderWords.{frame_words, ReadsFrame}
 use Rattle.gateway_frames.specs.FramesWords.{frames_words, frames_row, ReadsAllFrames}
 use Rattle.gateway_salvage.specs.SalvageWords.{words_of, entry_words, salvaged_words, SalvagesInWords}
 use Rattle.gateway_salvage.proofs.EntryBack.{entry_long}
-use Rattle.demands.specs.Stretches.{Stood, FrameInside, FramesStood, EntryInside, EntriesStood, WordsInside, WordsStood, AnswerStood}
+use Rattle.demands.specs.Stretches.{FrameInside, FramesStood, EntryInside, EntriesStood, WordsInside, WordsStood, AnswerStood}
 use Rattle.demands.proofs.Stretching.{row_first, stood_map, Whole, whole_read, payload_stood, frames_stood, salvaged_stood}
 use Rattle.demands.proofs.KeptFrame.{answer_says}
 use Rattle.demands.proofs.KeptRows.{records_long, row_long}

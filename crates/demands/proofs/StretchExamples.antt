@@ -1,5 +1,5 @@
 -- W-201: cases of document 01 that meet what Kept's lines ask, with the numbers that document 02 gives them; and what is ruled out.
-use Prim.Native.Nat.{ℕ, zero, suc, ◌<◌, ◌≤◌}
+use Prim.Native.Nat.{ℕ, zero, suc, ◌<◌}
 use native.Mathlib.Omega.{arith}
 use mathlib.Core.Path.{◌≡◌, refl}
 use mathlib.Core.Bool.{true, false}
@@ -24,7 +24,7 @@ use Rattle.gateway_row.specs.RowWords.{record_len, cut}
 use Rattle.demands.proofs.Table.{p8}
 use Rattle.demands.specs.Stretches.{FramesStood, EntriesStood, WordsStood, AnswerStood}
 use Rattle.demands.proofs.KeptRequests.{next_read_stood, exported_next_read_stood, exported_all_read_stood, exported_salvage_stood}
-use Rattle.demands.proofs.KeptExamples.{lending, taken_example}
+use Rattle.demands.proofs.KeptExamples.{lending, lending_room, taken_example}
 use Rattle.demands.proofs.SalvageClauses.{lists}
 use Rattle.demands.proofs.StretchCalls.{all_stood}
 
@@ -48,7 +48,7 @@ p8_stretches = refl
 pub p8_salvaged : (κs : Lfts 4) → WordsStood p8 [] 0 6 (cut record_len 2 p8_row)
 unfolding splice laid salvaged salvage_fuel read_at absorb absorb_fuel look payload_of end_of frame_walk continuations walk_fuel salvaged_bytes salvaged_row joined
 p8_salvaged κs =
-    exported_salvage_stood (lending p8) (lending []) (lending (replicate 8 9)) [] (0 ∷ 0 ∷ 2 ∷ 0 ∷ 6 ∷ 0 ∷ 0 ∷ 0 ∷ []) (omega arith) κs (lending (replicate 21 9)) p8_row
+    exported_salvage_stood (lending p8) (lending_room []) (lending_room (replicate 8 9)) [] (0 ∷ 0 ∷ 2 ∷ 0 ∷ 6 ∷ 0 ∷ 0 ∷ 0 ∷ []) (omega arith) κs (lending_room (replicate 21 9)) p8_row
     (record { answers = record { number_is = refl; words_are = refl }; room_is = refl; row_is = refl })
 
 -- ---- P9: (0, 14), by each call
@@ -62,19 +62,19 @@ p9_room = 0xAA ∷ 0xBB ∷ []
 pub p9_salvaged : (κs : Lfts 4) → WordsStood p9 p9_room 0 14 (cut record_len 1 p9_row)
 unfolding splice laid salvaged salvage_fuel read_at absorb absorb_fuel look payload_of end_of frame_walk continuations walk_fuel salvaged_bytes salvaged_row joined
 p9_salvaged κs =
-    exported_salvage_stood (lending p9) (lending (9 ∷ 9 ∷ [])) (lending (replicate 8 9)) p9_room (0 ∷ 0 ∷ 1 ∷ 2 ∷ 14 ∷ 0 ∷ 0 ∷ 0 ∷ []) (omega arith) κs (lending (replicate 10 9)) p9_row
+    exported_salvage_stood (lending p9) (lending_room (9 ∷ 9 ∷ [])) (lending_room (replicate 8 9)) p9_room (0 ∷ 0 ∷ 1 ∷ 2 ∷ 14 ∷ 0 ∷ 0 ∷ 0 ∷ []) (omega arith) κs (lending_room (replicate 10 9)) p9_row
     (record { answers = record { number_is = refl; words_are = refl }; room_is = refl; row_is = refl })
 
 pub p9_all : (κs : Lfts 4) → WordsStood p9 p9_room 0 14 (cut record_len 1 p9_row)
 unfolding splice laid all_frames frames_fuel read_at absorb absorb_fuel look payload_of end_of frame_walk continuations walk_fuel payloads_of frame_records joined
 p9_all κs =
-    exported_all_read_stood (lending p9) (lending (9 ∷ 9 ∷ [])) (lending (replicate 8 9)) p9_room (0 ∷ 14 ∷ 1 ∷ 2 ∷ 0 ∷ 0 ∷ 0 ∷ 0 ∷ []) (omega arith) κs (lending (replicate 10 9)) p9_row 0
+    exported_all_read_stood (lending p9) (lending_room (9 ∷ 9 ∷ [])) (lending_room (replicate 8 9)) p9_room (0 ∷ 14 ∷ 1 ∷ 2 ∷ 0 ∷ 0 ∷ 0 ∷ 0 ∷ []) (omega arith) κs (lending_room (replicate 10 9)) p9_row 0
     (record { answers = record { number_is = refl; words_are = refl }; room_is = refl; row_is = refl })
 
 pub p9_next : (κs : Lfts 3) → AnswerStood p9 0 p9_room (0 ∷ 14 ∷ 7 ∷ 0x43 ∷ 1 ∷ 2 ∷ 2 ∷ 0 ∷ [])
 unfolding splice laid read_at absorb absorb_fuel look payload_of end_of frame_walk continuations walk_fuel
 p9_next κs =
-    exported_next_read_stood (lending p9) (lending (9 ∷ 9 ∷ [])) (lending (replicate 8 9)) p9_room (0 ∷ 14 ∷ 7 ∷ 0x43 ∷ 1 ∷ 2 ∷ 2 ∷ 0 ∷ []) (omega arith) κs 0
+    exported_next_read_stood (lending p9) (lending_room (9 ∷ 9 ∷ [])) (lending_room (replicate 8 9)) p9_room (0 ∷ 14 ∷ 7 ∷ 0x43 ∷ 1 ∷ 2 ∷ 2 ∷ 0 ∷ []) (omega arith) κs 0
     (record { answers = record { number_is = refl; words_are = refl }; room_is = refl })
 
 abbrev p9_frame : DssFrame
@@ -90,7 +90,7 @@ p9_frame = record {
 pub p9_handed : (κs : Lfts 2) → FramesStood p9 p9_room 0 14 (p9_frame ∷ [])
 unfolding splice laid read_at absorb absorb_fuel look payload_of end_of frame_walk continuations walk_fuel
 p9_handed κs =
-    next_read_stood κs (stands_at 0) (stands_at 14) (lending p9) (lending (9 ∷ 9 ∷ [])) p9_frame p9_room (record { answers = refl; room_is = refl })
+    next_read_stood κs (stands_at 0) (stands_at 14) (lending p9) (lending_room (9 ∷ 9 ∷ [])) p9_frame p9_room (record { answers = refl; room_is = refl })
 
 -- ---- the same in rows of structs, which are lent with what they then hold; `taken` is the record of P2, with which P8 begins
 

@@ -2,20 +2,19 @@
 -- come from there, whatever the run.
 use Prim.Native.Nat.{ℕ, zero, suc, ◌+◌, ◌≤◌}
 use native.Mathlib.Omega.{arith}
-use mathlib.Core.Path.{◌≡◌, refl, sym, ap, subst, ◌∙◌}
+use mathlib.Core.Path.{◌≡◌, refl, sym, subst, ◌∙◌}
 use mathlib.Core.Bool.{false}
 use mathlib.Core.List.{List, [], ◌∷◌, ◌++◌, map, append_assoc}
 use lib.Dec.{ltb, leb}
 use lib.ListN.{length, take, drop}
 use lib.Seq.{take_at}
 use borrow.Author.Tests.{leb-true}
-use Rattle.wire.specs.Bytes.{be16, part, splice}
+use Rattle.wire.specs.Bytes.{be16, splice}
 use Rattle.wire.proofs.WireLaws.{by, pick_by, pick_no, picked}
 use Rattle.wire.proofs.Places.{here_next, here_part}
 use Rattle.answer.specs.Numbers.{not_whole}
 use Rattle.answer.specs.Rooms.{out_of_bounds}
 use Rattle.dss_frame.specs.declared.Rules.TheVariants.{Reader, Salvage}
-use Rattle.dss_frame.specs.declared.DssFrame.{DssFrame}
 use Rattle.dss_frame.specs.Segments.{Walk, whole, short, dead, payload_of, end_of, frame_walk}
 use Rattle.dss_frame.specs.Reading.{Frame, Read, frame, refused, read_at}
 use Rattle.dss_frame.specs.Frames.{AllRead, frames, refused_all, before, and_on, all_frames}

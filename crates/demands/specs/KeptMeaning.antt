@@ -1,13 +1,13 @@
 -- What the lines of Kept say holds after a call: in Rattle, of a record; for a caller in C or Rust, of the words that were lent.
 use Rattle.std.specs.Prelude.{ℕ, ◌+◌, ◌*◌, ◌%◌, ◌≤◌, ◌<◌, ◌≡◌, false, List, [], ◌∷◌, length, get_or, take, drop}
-use Rattle.wire.specs.Bytes.{part, splice, laid, joined}
+use Rattle.wire.specs.Bytes.{part, splice, joined}
 use Rattle.answer.specs.Numbers.{number_of}
 use Rattle.answer.specs.declared.Refusal.TheVariants.{Incomplete}
 use Rattle.answer.specs.declared.Refused.{Refused}
 use Rattle.dss_head.specs.Heads.{type_at, flags_of}
 use Rattle.dss_head.specs.declared.DssFlags.{DssFlags}
 use Rattle.dss_head.specs.declared.TypeFound.TheVariants.{Is}
-use Rattle.dss_frame.specs.Reading.{Frame, Read, frame}
+use Rattle.dss_frame.specs.Reading.{Frame, Read}
 use Rattle.dss_frame.specs.Frames.{AllRead}
 use Rattle.dss_frame.specs.FrameRecords.{frame_record}
 use Rattle.dss_frame.specs.Written.{Sent, written}

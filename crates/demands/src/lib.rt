@@ -1,1 +1,2 @@
 // The demands as statements, document 01's table and edges (specs/), and their proofs (proofs/).
+#![tactic(auto)]

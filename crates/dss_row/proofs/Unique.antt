@@ -1,5 +1,5 @@
 -- What `fill_rows` ensures, said of plain lists, and that it leaves no choice: any two rows that it allows are equal, record by record.
--- A function over a row of records has no `Reads`: its `clauses` are named.
+-- The function's own `clauses` are named, in any model.
 use Prim.Native.Nat.{ℕ}
 use mathlib.Core.Path.{◌≡◌, refl, sym, ◌∙◌}
 use mathlib.Core.List.{List}

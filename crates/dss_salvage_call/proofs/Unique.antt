@@ -1,5 +1,5 @@
--- Any two outcomes that the contract of `salvage` allows are equal: the answer, every byte of the room and every record of the row. A
--- function over a row of records has no `Reads`: its `clauses` are named, and in any model they are the record.
+-- Any two outcomes that the contract of `salvage` allows are equal: the answer, every byte of the room and every record of the row. The
+-- function's own `clauses` are named, and in any model they are the record.
 use Prim.Native.Nat.{ℕ}
 use mathlib.Core.Path.{◌≡◌, refl, sym, ◌∙◌}
 use mathlib.Core.List.{List}
