@@ -245,7 +245,7 @@ pub fn lay(data: &[u8], room: &mut [u8])
     ensures { room.new ≡ laid room.old 0 «data».now }
 {
     if data.len() <= room.len() {
-        room[..data.len()].copy_from_slice(data);
+        wire::copy(data, room);
     }
 }
 

@@ -1,5 +1,5 @@
--- The theorems over the contracts of the calls themselves: each names a call's contract, and doesn't write it again. A function over a
--- row of records has no `Reads`: its own clause is named, and in any model of the logic it entails the fact.
+-- The theorems over the contracts of the calls themselves: each names a call's contract, and doesn't write it again. Of a function over a
+-- row of records its own clause is named, and in any model of the logic it entails the fact.
 use Prim.Native.Nat.{ℕ, ◌-◌, ◌^◌, ◌≤◌, ◌<◌}
 use mathlib.Core.Path.{◌≡◌, refl, sym, ap, subst, ◌∙◌}
 use mathlib.Core.Bool.{false}

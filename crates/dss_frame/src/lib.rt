@@ -1,4 +1,6 @@
 // What a frame is: definitions (specs/), and the records that the reader and the salvage reading share.
+#![tactic(auto)]
+
 use dss_head::DssHeader;
 
 // Whose rules hold while a frame is read: the reader's, which are the Rust's, or salvage's.

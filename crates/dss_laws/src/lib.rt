@@ -1,1 +1,2 @@
 // The laws of the definitions of DSS: theorems alone (specs/).
+#![tactic(auto)]

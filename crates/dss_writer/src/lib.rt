@@ -104,9 +104,7 @@ pub(crate) fn lay_chunk(raw_length: u16, bytes: &[u8], room: &mut [u8])
     ensures { room.new ≡ splice room.old 0 (two raw_length ++ bytes.now) }
 {
     wire::put_u16(room, raw_length);
-    room[DSS_CONTINUATION_HEADER_LEN..DSS_CONTINUATION_HEADER_LEN + bytes.len()].copy_from_slice(
-        bytes,
-    );
+    wire::copy(bytes, &mut room[DSS_CONTINUATION_HEADER_LEN..]);
 }
 
 // The continuations of what the first segment left, at the room's start.

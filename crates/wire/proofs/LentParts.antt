@@ -5,8 +5,7 @@ use native.Mathlib.Omega.{arith}
 use mathlib.Core.Path.{◌≡◌, sym, ap, ap₂, ◌∙◌}
 use mathlib.Core.List.{List, [], ◌++◌, append-nil}
 use lib.ListN.{length, take, drop, length-drop}
-use lib.Seq.{take_all, take-length, drop-length, drop-drop}
-use borrow.Rule.Slice.PartMut.{put_mid}
+use lib.Seq.{take_all, take-length, drop-length}
 use Rattle.wire.specs.Bytes.{splice, laid}
 use Rattle.wire.proofs.Splicing.{splice_lent, splice_splice, laid_fits}
 
@@ -52,9 +51,3 @@ headed r x s n t y k h e f = next r 0 x s n t y (omega arith) (e ∙ laid_fits r
 -- y copied into the tail from a on
 pub copied_lent : (r : List ℕ) (a : ℕ) (t y : List ℕ) → t ≡ take (length y) y ++ drop (length y) (tail r a) → back r a t ≡ splice r a y
 copied_lent r a t y e = lent r a t y (e ∙ copied y (tail r a))
-
--- a part of r, from a up to where s ends, that holds s when it comes back
-pub middle : (r s y : List ℕ) (a k : ℕ) → y ≡ s → k ≡ length s → put_mid a k r y ≡ splice r a s
-unfolding splice
-middle r s y a k e f =
-    ap₂ (λ (x z : List ℕ). take a r ++ (x ++ z)) e (drop-drop k a r ∙ ap (λ (n : ℕ). drop (a + n) r) f)

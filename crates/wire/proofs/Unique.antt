@@ -8,6 +8,7 @@ use Rattle.wire.proofs.byte_at.Reads as byte_at
 use Rattle.wire.proofs.u16_of.Reads as u16_of
 use Rattle.wire.proofs.u16_at.Reads as u16_at
 use Rattle.wire.proofs.put_u16.Reads as put_u16
+use Rattle.wire.proofs.copy.Reads as copy
 use Rattle.wire.proofs.lay_at.Reads as Lay_at
 
 pub byte_at_one : (κs : Lfts 1) (s : Bor (List ℕ)) (at r r' : ℕ) → byte_at.Post κs (s, (at, tt)) r (s, (at, tt)) → byte_at.Post κs (s, (at, tt)) r' (s, (at, tt)) → r ≡ r'
@@ -26,3 +27,7 @@ put_u16_one κs room n r r' l l' p q = p ∙ sym q
 pub lay_at_one : (κs : Lfts 2) (b : Bor (List ℕ)) (room : MutBor (List ℕ)) (at : ℕ) (r r' : Unit {0}) (l l' : List ℕ)
     → Lay_at.Post κs (b, (room, (at, tt))) r (b, (at_last room l, (at, tt))) → Lay_at.Post κs (b, (room, (at, tt))) r' (b, (at_last room l', (at, tt))) → l ≡ l'
 lay_at_one κs b room at r r' l l' p q = p ∙ sym q
+
+pub copy_one : (κs : Lfts 2) (b : Bor (List ℕ)) (room : MutBor (List ℕ)) (r r' : Unit {0}) (l l' : List ℕ)
+    → copy.Post κs (b, (room, tt)) r (b, (at_last room l, tt)) → copy.Post κs (b, (room, tt)) r' (b, (at_last room l', tt)) → l ≡ l'
+copy_one κs b room r r' l l' p q = p ∙ sym q

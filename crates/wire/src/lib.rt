@@ -42,6 +42,18 @@ pub fn put_u16(room: &mut [u8], n: u16)
     room[1] = (n % 256) as u8;
 }
 
+// Lays bytes down at the room's start, where it has room for them. A loop, which is compiled to moves of sixteen bytes, and not
+// `copy_from_slice`, which calls the C library's `memmove`: the archive is to need no other library.
+pub fn copy(bytes: &[u8], room: &mut [u8])
+    ensures { room.new ≡ laid room.old 0 bytes.now }
+{
+    if bytes.len() <= room.len() {
+        for i in 0..bytes.len() {
+            room[i] = bytes[i];
+        }
+    }
+}
+
 // From so many bytes on, laying them down in two steps is worth it.
 const LONG: usize = 256;
 
@@ -50,7 +62,7 @@ pub(crate) fn copy_at(bytes: &[u8], room: &mut [u8], at: usize)
     requires { at + length bytes.now ≤ length room.old }
     ensures { room.new ≡ splice room.old at bytes.now }
 {
-    room[at..at + bytes.len()].copy_from_slice(bytes);
+    copy(bytes, &mut room[at..]);
 }
 
 // Lays bytes into a room from a place on, where it has room for them. Those up to a place that 16 divides go first: in a room

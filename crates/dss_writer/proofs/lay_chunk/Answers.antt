@@ -2,7 +2,7 @@
 use Rattle.std.proofs.Common.{arith, ◌≡◌, ◌≤◌, ◌++◌, length, ap, ◌∙◌, ℕ, List, ◌+◌, refl}
 use Rattle.wire.specs.Bytes.{two, splice, laid}
 use Rattle.wire.proofs.Splicing.{splice_splice, laid_fits}
-use Rattle.wire.proofs.LentParts.{middle}
+use Rattle.wire.proofs.LentParts.{tail, tail_length, lent}
 use Rattle.dss_writer.proofs.lay_chunk.Goals as goal
 
 -- y behind the two bytes x
@@ -16,5 +16,7 @@ behind r x y s k h e =
 pub returns : goal.returns
 returns c =
     let a = c.args in
-    middle _ a.bytes.now _ 2 _ c.copy_from_slice.ensures.after (omega arith)
+    let s = c.put_u16.new.room in
+    let n = tail_length s 2 in
+    lent s 2 _ a.bytes.now (c.copy.ensures ∙ laid_fits (tail s 2) 0 a.bytes.now (omega (arith, n)))
     ∙ behind a.room.now (two a.raw_length) a.bytes.now _ refl (omega arith) c.put_u16.ensures

@@ -2,8 +2,6 @@
 use Prim.Native.Nat.{◌+◌}
 use native.Mathlib.Omega.{arith}
 use lib.ListN.{get_or-eq_default}
-use Rattle.wire.proofs.byte_at.Reads as byte_at_reads
-use Rattle.wire.proofs.u16_of.Reads as u16_of_reads
 use Rattle.wire.proofs.u16_at.Goals as goal
 
 pub returns-then-s-at : goal.returns-then-s-at
