@@ -30,7 +30,7 @@ stands zero (y ∷ ys) h = (y, refl)
 stands (suc i) [] h = absurd (omega arith)
 stands (suc i) (y ∷ ys) h = stands i ys (omega arith)
 
-pub record Filling (s : List ℕ) (n : ℕ) (ys : List DdmObject) (i at : ℕ) (row : List DdmObject) : Type 0 where
+pub record FillingObjects (s : List ℕ) (n : ℕ) (ys : List DdmObject) (i at : ℕ) (row : List DdmObject) : Type 0 where
   pub done : List DdmObject
   pub more : ℕ
   pub few : i + more ≡ n
@@ -38,10 +38,10 @@ pub record Filling (s : List ℕ) (n : ℕ) (ys : List DdmObject) (i at : ℕ) (
   pub holds : row ≡ done ++ drop i ys
   pub recs : recs_from n s 0 ≡ done ++ recs_from more s at
 
-pub filling_start : (s : List ℕ) (n : ℕ) (ys : List DdmObject) → Filling s n ys 0 0 ys
+pub filling_start : (s : List ℕ) (n : ℕ) (ys : List DdmObject) → FillingObjects s n ys 0 0 ys
 filling_start s n ys = record { done = []; more = n; few = omega arith; many = refl; holds = refl; recs = refl }
 
-module _ (s : List ℕ) (n : ℕ) (ys : List DdmObject) (i at : ℕ) (row : List DdmObject) (k : Filling s n ys i at row) where
+module _ (s : List ℕ) (n : ℕ) (ys : List DdmObject) (i at : ℕ) (row : List DdmObject) (k : FillingObjects s n ys i at row) where
   -- the records are those stored, once no more come
   ended : recs_from k.more s at ≡ [] → RowFilled s n ys i row
   ended e =
@@ -58,10 +58,10 @@ module _ (s : List ℕ) (n : ℕ) (ys : List DdmObject) (i at : ℕ) (row : List
       go zero = none s at
       go (suc m) = one_more m s at (NoStep r) e
 
-  pub filling_step : (r : DdmObject) (next : ℕ) → n ≤ length ys → i < n → param_step_at s at ≡ Param r next → Filling s n ys (i + 1) next (set row i r)
+  pub filling_step : (r : DdmObject) (next : ℕ) → n ≤ length ys → i < n → param_step_at s at ≡ Param r next → FillingObjects s n ys (i + 1) next (set row i r)
   filling_step r next room h e = go k.more refl
     where
-      go : (m : ℕ) → k.more ≡ m → Filling s n ys (i + 1) next (set row i r)
+      go : (m : ℕ) → k.more ≡ m → FillingObjects s n ys (i + 1) next (set row i r)
       go zero q = absurd (omega (arith, k.few))
       go (suc m) q =
           let z = stands i ys (omega arith) in
