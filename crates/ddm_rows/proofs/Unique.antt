@@ -1,5 +1,5 @@
 -- Any two outcomes that a contract of this crate allows are equal. Each statement names the contract, and doesn't write it again.
--- A function over a row, or over a walker, is proved by hand: its own clause is named, and shown to be a fact that leaves no choice.
+-- Of a function over a row, or over a walker, its own clause is named, and shown to be a fact that leaves no choice.
 use Prim.Native.Nat.{ℕ}
 use mathlib.Core.Path.{◌≡◌, refl, sym, ◌∙◌}
 use mathlib.Core.Bool.{Bool}

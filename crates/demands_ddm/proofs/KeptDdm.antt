@@ -1,7 +1,7 @@
 -- The port has it: a theorem for each promise on DDM objects, over the contracts of the Rattle calls and of the functions exported to C
 -- and Rust. `f.Post κs (what goes in) r (what is lent, at the end)` is the contract of f itself: the answer r, and what lent slices
 -- hold at the end, are any that it allows. `x.now` is what a slice holds at the call, and `at_last x l` the slice with l in it at the
--- end. A function over a row of records has `clauses` instead, and `ent .. (fact ..)` says that what it ensures entails the fact.
+-- end. Of a function over a row of records `clauses` are named, and `ent .. (fact ..)` says that what it ensures entails the fact.
 -- `Fits` and `Fit` hold of all that can be passed to a call: code points of sixteen bits, data of fewer than 2^63 bytes.
 use Prim.Native.Nat.{ℕ, ◌+◌, ◌*◌, ◌-◌, ◌^◌, ◌≤◌, ◌<◌}
 use mathlib.Core.Path.{◌≡◌, ap, subst, ◌∙◌}

@@ -1,5 +1,5 @@
 // How a frame goes to C and Rust: in eight words. A row of records is lent as words, ten a record, one behind the other. The
-// crates that export the port's functions call this.
+// crates of the port's functions for C call this.
 #![tactic(auto)]
 
 ghost use Rattle.std.specs.Prelude.{◌≡◌};

@@ -1,4 +1,4 @@
--- `dss_salvage_call::lay_payloads` meets its contract. what is taken is what is measured there, and what is refused is stepped over, or
+-- `dss_salvage_call::lay_payloads` meets its contract: what is taken is what is measured there, and what is refused is stepped over, or
 -- ends the walk.
 use Prim.Native.Nat.{ℕ, ◌≤◌}
 use native.Mathlib.Omega.{arith}

@@ -1,4 +1,4 @@
--- `gateway_frames::take_frames` meets its contract. one is left, so that one is taken, and its record is laid behind those before it.
+-- `gateway_frames::take_frames` meets its contract: one is left, so that one is taken, and its record is laid behind those before it.
 use Prim.Native.Nat.{◌+◌}
 use native.Mathlib.Omega.{arith}
 use mathlib.Core.Path.{sym, ap, ◌∙◌}

@@ -1,4 +1,4 @@
--- `gateway_salvage::lay_entries` meets its contract. each step's words are laid behind those before it.
+-- `gateway_salvage::lay_entries` meets its contract: each step's words are laid behind those before it.
 use Prim.Native.Nat.{◌+◌}
 use native.Mathlib.Omega.{arith}
 use mathlib.Core.Path.{sym, ap, ◌∙◌}
