@@ -1,11 +1,11 @@
 -- Any two outcomes that a contract of this crate allows are equal. Each statement names the contract.
+use Rattle.std.specs.Prelude.{Result}
 use Prim.Native.Nat.{ℕ}
 use mathlib.Core.Path.{◌≡◌, sym, ◌∙◌}
 use mathlib.Core.Bool.{Bool}
 use contract.Lifetimes.{Lfts}
 use Rattle.answer.specs.declared.Refusal.{Refusal}
 use Rattle.answer.specs.declared.Refused.{Refused}
-use Rattle.answer.specs.declared.RoomFor.{RoomFor}
 use Rattle.answer.proofs.Refusal.number.Reads as number
 use Rattle.answer.proofs.Refusal.not_whole.Reads as not_whole
 use Rattle.answer.proofs.Refusal.first_value.Reads as first_value
@@ -39,6 +39,6 @@ pub out_of_bounds_one : (κs : Lfts 0) (mark size : ℕ) (r r' : Refused)
     → out_of_bounds.Post κs (mark, (size, tt)) r (mark, (size, tt)) → out_of_bounds.Post κs (mark, (size, tt)) r' (mark, (size, tt)) → r ≡ r'
 out_of_bounds_one κs mark size r r' p q = p ∙ sym q
 
-pub room_for_one : (κs : Lfts 0) (mark size need : ℕ) (r r' : RoomFor)
+pub room_for_one : (κs : Lfts 0) (mark size need : ℕ) (r r' : Result (Unit {0}) Refused)
     → room_for.Post κs (mark, (size, (need, tt))) r (mark, (size, (need, tt))) → room_for.Post κs (mark, (size, (need, tt))) r' (mark, (size, (need, tt))) → r ≡ r'
 room_for_one κs mark size need r r' p q = p ∙ sym q

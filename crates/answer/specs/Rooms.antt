@@ -1,12 +1,8 @@
 -- What a result needs of the room that is lent for it: document 01, "Answer numbers", the paragraph below the table.
-use Rattle.std.specs.Prelude.{ℕ, ◌-◌, ◌^◌, ◌≡◌, Bool, List, ltb, leb, length}
+use Rattle.std.specs.Prelude.{ℕ, ◌-◌, ◌^◌, ◌≡◌, Bool, List, ltb, leb, length, Result, Ok, Err}
 use Rattle.wire.specs.Bytes.{pick, and, laid}
 use Rattle.answer.specs.declared.Refusal.TheVariants.{NoRoom, OutOfBounds}
 use Rattle.answer.specs.declared.Refused.{Refused}
-use Rattle.answer.specs.declared.RoomFor.{RoomFor}
-use Rattle.answer.specs.declared.RoomFor.TheVariants.{Enough, Refused as Refuses}
-use Rattle.answer.specs.declared.Laid.{Laid}
-use Rattle.answer.specs.declared.Laid.TheVariants.{Bytes, Refused as NotLaid}
 
 -- "a need above 2^64 - 1 is given as that"
 abbrev pub capped : ℕ → ℕ
@@ -26,15 +22,15 @@ out_of_bounds mark size = record { why = OutOfBounds mark size; place = mark }
 
 -- "9 is given exactly when nothing earlier refuses and the result needs more bytes than the room, counted from the fill
 -- mark"; "10 comes first wherever there is a position or mark"; "a call without a record row needs 0 records"
-abbrev pub room_for : ℕ → ℕ → ℕ → RoomFor
+abbrev pub room_for : ℕ → ℕ → ℕ → Result (Unit {0}) Refused
 room_for mark size need =
-    pick (leb mark size) (pick (leb need (size - mark)) Enough (Refuses (no_room mark need 0))) (Refuses (out_of_bounds mark size))
+    pick (leb mark size) (pick (leb need (size - mark)) (Ok tt) (Err (no_room mark need 0))) (Err (out_of_bounds mark size))
 
 -- "other results start at their room's first byte": n bytes there, and the place that a refusal has
-abbrev pub laid_at_start : ℕ → ℕ → ℕ → Laid
-laid_at_start place size n = pick (leb n size) (Bytes n) (NotLaid (no_room place n 0))
+abbrev pub laid_at_start : ℕ → ℕ → ℕ → Result ℕ Refused
+laid_at_start place size n = pick (leb n size) (Ok n) (Err (no_room place n 0))
 
 -- what laying bytes down at a room's first byte answers, and what the room then holds
-pub record Lays (bytes room : List ℕ) (r : Laid) (after : List ℕ) : Type 0 where
+pub record Lays (bytes room : List ℕ) (r : Result ℕ Refused) (after : List ℕ) : Type 0 where
   pub answers : r ≡ laid_at_start 0 (length room) (length bytes)
   pub room_is : after ≡ laid room 0 bytes

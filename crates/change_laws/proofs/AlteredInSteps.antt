@@ -1,5 +1,6 @@
 -- The whole way of "We build a request once a site and alter one value for each extension block". The request is an
 -- object in a frame, so its data are changed, built and written: three calls, by the contracts that they have.
+use Rattle.std.specs.Prelude.{Ok}
 use Prim.Native.Nat.{ℕ, ◌^◌, ◌<◌}
 use mathlib.Core.Path.{◌≡◌, sym, ◌∙◌, ap}
 use mathlib.Core.Bool.{Bool}
@@ -7,7 +8,6 @@ use mathlib.Core.List.{List, ◌∷◌, ◌++◌}
 use lib.ListN.{length, take, drop}
 use lib.Seq.{take_at}
 use Rattle.answer.specs.Rooms.{Lays}
-use Rattle.answer.specs.declared.Laid.TheVariants.{Bytes}
 use Rattle.dss_head.specs.declared.DssType.{DssType}
 use Rattle.dss_frame.specs.Written.{Sent, written}
 use Rattle.ddm_builder.specs.Built.{built, built_all, Fit}
@@ -17,7 +17,7 @@ use Rattle.change_laws.proofs.ChangeCall.{Lay, done_laid}
 use Rattle.change_laws.proofs.Altered.{WithoutParam, alters}
 
 -- what was laid down are the room's first bytes
-laid_first : (bytes room : List ℕ) (n : ℕ) (after : List ℕ) → Lays bytes room (Bytes n) after → take n after ≡ bytes
+laid_first : (bytes room : List ℕ) (n : ℕ) (after : List ℕ) → Lays bytes room (Ok n) after → take n after ≡ bytes
 laid_first bytes room n after p =
     let l = lays_done bytes room after n p in
     ap (take n) l.room_is ∙ take_at bytes (drop n room) n (sym l.many)
@@ -30,9 +30,9 @@ frame t chained same correlation payload = record { type = t; chained = chained;
 module _ (before after : List (ℕ × List ℕ)) (cp : ℕ) (old new : List ℕ) (fit : Fit before) (fit' : Fit after) (small : cp < 65536) (few : length old < 2 ^ 63) (first : WithoutParam cp before)
     (code : ℕ) (t : DssType) (chained same : Bool) (correlation : ℕ) where
   pub request_altered : (room₁ room₂ room₃ after₁ after₂ after₃ : List ℕ) (n₁ n₂ n₃ : ℕ)
-      → Changes (built_all (before ++ ((cp, old) ∷ after))) cp new room₁ (Bytes n₁) after₁
-      → Lays (built code (take n₁ after₁)) room₂ (Bytes n₂) after₂
-      → Lays (written (frame t chained same correlation (take n₂ after₂))) room₃ (Bytes n₃) after₃
+      → Changes (built_all (before ++ ((cp, old) ∷ after))) cp new room₁ (Ok n₁) after₁
+      → Lays (built code (take n₁ after₁)) room₂ (Ok n₂) after₂
+      → Lays (written (frame t chained same correlation (take n₂ after₂))) room₃ (Ok n₃) after₃
       → take n₃ after₃ ≡ written (frame t chained same correlation (built code (built_all (before ++ ((cp, new) ∷ after)))))
   request_altered room₁ room₂ room₃ after₁ after₂ after₃ n₁ n₂ n₃ a b c =
       let l : Lay (built_all (before ++ ((cp, old) ∷ after))) cp new room₁ n₁ after₁ = done_laid (built_all (before ++ ((cp, old) ∷ after))) cp new room₁ after₁ n₁ a in

@@ -1,4 +1,5 @@
 -- The premises of the theorems can be met: an instance of each, over a request of two parameters whose first is changed. And impostors.
+use Rattle.std.specs.Prelude.{Ok, Err}
 use Prim.Native.Nat.{ℕ, ◌+◌, ◌%◌}
 use native.Mathlib.Omega.{arith}
 use mathlib.Core.Path.{◌≡◌, refl, ap}
@@ -9,14 +10,12 @@ use lib.Dec.{eqb}
 use lib.ListN.{length, take, replicate, get_or}
 use Rattle.wire.specs.Bytes.{splice, laid}
 use Rattle.answer.specs.Rooms.{no_room}
-use Rattle.answer.specs.declared.Laid.TheVariants.{Refused as NotLaid}
 use Rattle.dss_head.specs.declared.DssType.TheVariants.{Request}
 use Rattle.dss_frame.specs.Written.{Sent, written}
 use Rattle.ddm_builder.specs.Built.{built, built_size, built_all}
 use Rattle.ddm_object.specs.Objects.{parameters}
 use Rattle.ddm_object.specs.ObjectCalls.{find_from, work_found}
 use Rattle.ddm_object.proofs.ObjectReads.{Reads, made}
-use Rattle.ddm_object.specs.declared.ObjectFound.TheVariants.{Object as Gives}
 use Rattle.ddm_laws.proofs.LayoutLaws.{built_reads}
 use Rattle.ddm_laws.proofs.BuiltLists.{none, reached}
 use Rattle.ddm_change.specs.Change.{changed, change_of, no_such, change_answer}
@@ -53,7 +52,7 @@ like = changed_as (d (7 ∷ [])) 0x2110 new (d new) gives
 changed_met : (parameters (d new) ≡ like.at.before ++ (new_object 0x2110 new (omega arith) (omega arith) ∷ like.at.after))
     × (length (parameters (d new)) ≡ length (parameters (d (7 ∷ [])))) × (reached (parameters (d new)) ≡ length (d new))
     × (length (d new) + like.at.one.consumed ≡ length (d (7 ∷ [])) + built_size 2) × (change_of (d new) 0x2110 [] ≡ change_of (d (7 ∷ [])) 0x2110 [])
-    × Gets (d new) (length like.at.head) 0x2110 new [] (Gives (record { code_point = 0x2110; in_work = false; data_at = 4; data_len = 2; consumed = 6 })) []
+    × Gets (d new) (length like.at.head) 0x2110 new [] (Ok (record { code_point = 0x2110; in_work = false; data_at = 4; data_len = 2; consumed = 6 })) []
 unfolding find_from work_found parameters built laid
 changed_met = (
   (parameters_changed 0x2110 new (omega arith) (omega arith) (d (7 ∷ [])) (d new) like).1,
@@ -71,7 +70,7 @@ own_met =
     change_own (built 2 new) 2
     (record { head = []; old = built 2 new; rest = []; before = []; one = made 2 new 6; after = []; bytes = refl; list = refl; head_reads = none; old_reads = r; rest_reads = none; lacks = tt; has = refl }) refl
 
-calls_met : (change_answer (change_of (d (7 ∷ [])) 0x2110 new) 10 ≡ NotLaid (no_room 0 11 0)) × Lay (d (7 ∷ [])) 0x2110 new (replicate 12 3) 11 (d new ++ (3 ∷ []))
+calls_met : (change_answer (change_of (d (7 ∷ [])) 0x2110 new) 10 ≡ Err (no_room 0 11 0)) × Lay (d (7 ∷ [])) 0x2110 new (replicate 12 3) 11 (d new ++ (3 ∷ []))
     × (◌≡◌ {A = List ℕ} (3 ∷ []) (3 ∷ []))
 unfolding change_of parameters built laid
 calls_met = (

@@ -1,4 +1,5 @@
 -- Some values, computed: each refusal with its place, and both sides of 32,763 at their real sizes.
+use Rattle.std.specs.Prelude.{Err}
 use Prim.Native.Nat.{ℕ}
 use mathlib.Core.Path.{◌≡◌, refl}
 use mathlib.Core.Bool.{Bool, true, false}
@@ -11,7 +12,6 @@ use Rattle.ddm_length.specs.Markers.{unmarked}
 use Rattle.ddm_builder.specs.Built.{built, length_bytes}
 use Rattle.ddm_object.specs.Objects.{parsed, parameters, parameters_fuel}
 use Rattle.answer.specs.Rooms.{no_room}
-use Rattle.answer.specs.declared.Laid.TheVariants.{Refused as NotLaid}
 use Rattle.ddm_change.specs.Change.{fault_from, first_from, Change, changed, faulty, lacking, change_of, change_answer}
 
 -- the first of two is rewritten, in the builder's form, and all else is copied
@@ -39,7 +39,7 @@ unfolding change_of fault_from first_from parameters parameters_fuel parsed meas
 none_example = refl
 
 -- 9: one byte too few
-room_example : change_answer (change_of (0 ∷ 4 ∷ 0 ∷ 2 ∷ []) 2 (1 ∷ 2 ∷ [])) 5 ≡ NotLaid (no_room 0 6 0)
+room_example : change_answer (change_of (0 ∷ 4 ∷ 0 ∷ 2 ∷ []) 2 (1 ∷ 2 ∷ [])) 5 ≡ Err (no_room 0 6 0)
 unfolding change_of fault_from first_from parameters parameters_fuel parsed measured marshaled spelled unmarked built length_bytes last
 room_example = refl
 

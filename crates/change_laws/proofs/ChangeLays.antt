@@ -1,4 +1,5 @@
 -- What laying bytes down at a room's first byte says by its answer.
+use Rattle.std.specs.Prelude.{Ok, Err}
 use Prim.Native.Nat.{ℕ, ◌+◌, ◌≤◌}
 use native.Mathlib.Omega.{arith}
 use mathlib.Core.Path.{◌≡◌, refl, sym, ◌∙◌, ap}
@@ -11,7 +12,6 @@ use Rattle.wire.proofs.WireLaws.{by, pick_yes, picked}
 use Rattle.wire.proofs.Splicing.{laid_fits, laid_kept}
 use Rattle.answer.specs.Rooms.{no_room, Lays}
 use Rattle.answer.specs.declared.Refused.{Refused}
-use Rattle.answer.specs.declared.Laid.TheVariants.{Bytes, Refused as NotLaid}
 
 -- the bytes are the room's first n, and behind them it is as it was
 pub record StandsLaid (bytes room : List ℕ) (n : ℕ) (after : List ℕ) : Type 0 where
@@ -19,11 +19,11 @@ pub record StandsLaid (bytes room : List ℕ) (n : ℕ) (after : List ℕ) : Typ
   pub fits : n ≤ length room
   pub room_is : after ≡ bytes ++ drop n room
 
-pub never : {P : Type 0} {n : ℕ} {x : Refused} → Bytes n ≡ NotLaid x → P
+pub never : {P : Type 0} {n : ℕ} {x : Refused} → Ok n ≡ Err x → P
 never e = absurd (let z : ◌≡◌ {A = ℕ} 0 1 = cc in omega arith)
 
 module _ (b room after : List ℕ) where
-  pub lays_done : (n : ℕ) → Lays b room (Bytes n) after → StandsLaid b room n after
+  pub lays_done : (n : ℕ) → Lays b room (Ok n) after → StandsLaid b room n after
   unfolding splice
   lays_done n p =
       picked (leb (length b) (length room)) (sym p.answers)
@@ -34,7 +34,7 @@ module _ (b room after : List ℕ) where
       (λ t k. never (sym k))
 
   -- a refusal leaves the room as it was
-  pub lays_kept : (x : Refused) → Lays b room (NotLaid x) after → after ≡ room
+  pub lays_kept : (x : Refused) → Lays b room (Err x) after → after ≡ room
   lays_kept x p =
       by (leb (length b) (length room)) (λ t. never (sym (p.answers ∙ pick_yes _ _ t)))
       (λ t. p.room_is ∙ laid_kept room 0 b (omega (arith, leb-false (length b) (length room) t)))

@@ -1,4 +1,5 @@
 -- The value that was laid down is read back: `find_param` over the data after, by the contract that it has.
+use Rattle.std.specs.Prelude.{Result, Ok}
 use Prim.Native.Nat.{ℕ, ◌+◌, ◌-◌, ◌^◌, ◌≤◌, ◌<◌}
 use native.Mathlib.Omega.{arith}
 use mathlib.Core.Path.{◌≡◌, refl, sym, ◌∙◌, ap}
@@ -18,12 +19,11 @@ use Rattle.ddm_object.specs.ObjectCalls.{lies_in_work, work_of, object_record, g
 use Rattle.ddm_object.proofs.ObjectReads.{Reads}
 use Rattle.ddm_object.proofs.DataLaws.{run_data}
 use Rattle.ddm_object.specs.declared.DdmObject.{DdmObject}
-use Rattle.ddm_object.specs.declared.ObjectFound.{ObjectFound}
-use Rattle.ddm_object.specs.declared.ObjectFound.TheVariants.{Object as Gives}
 use Rattle.ddm_laws.proofs.LayoutLaws.{built_reads}
 use Rattle.ddm_laws.proofs.BuiltLists.{reached, pieces_reach}
 use Rattle.change_laws.proofs.SoundData.{reads_raw, LacksParam}
 use Rattle.change_laws.proofs.ChangedList.{ChangedAs, new_object, parameters_changed}
+use Rattle.answer.specs.declared.Refused.{Refused}
 
 -- the first with a code point is the one that is given
 module _ (s : List ℕ) (cp : ℕ) (work : List ℕ) (o : Object) (after : List Object) (has : o.code_point ≡ cp) where
@@ -46,9 +46,9 @@ module _ (s : List ℕ) (cp : ℕ) (work : List ℕ) (o : Object) (after : List 
       )
 
 -- a call gives a parameter at a place with its data where the record says, and leaves the work area
-pub record Gets (s : List ℕ) (place cp : ℕ) (d work : List ℕ) (r : ObjectFound) (after : List ℕ) : Type 0 where
+pub record Gets (s : List ℕ) (place cp : ℕ) (d work : List ℕ) (r : Result DdmObject Refused) (after : List ℕ) : Type 0 where
   pub one : DdmObject
-  pub is : r ≡ Gives one
+  pub is : r ≡ Ok one
   pub code_point : one.code_point ≡ cp
   pub in_run : one.in_work ≡ false
   pub data_is : take one.data_len (drop one.data_at s) ≡ d
@@ -64,7 +64,7 @@ module _ (s p rest : List ℕ) (place : ℕ) (o : Object) (reads : Reads p o) (h
   no_work : work_of s place o ≡ []
   no_work = pick_no _ _ not_in
 
-  pub gets : (r : ObjectFound) (after : List ℕ) → r ≡ given_object s place 0 (length work) o → after ≡ laid work 0 (work_of s place o)
+  pub gets : (r : Result DdmObject Refused) (after : List ℕ) → r ≡ given_object s place 0 (length work) o → after ≡ laid work 0 (work_of s place o)
       → Gets s place o.code_point o.content work r after
   gets r after e f =
       let fits : length (work_of s place o) ≤ length work = omega (arith, ap length no_work) in
@@ -81,7 +81,7 @@ module _ (s p rest : List ℕ) (place : ℕ) (o : Object) (reads : Reads p o) (h
 
 -- `find_param` over the data after gives the new bytes, where the old parameter stood
 module _ (cp : ℕ) (new : List ℕ) (small : cp < 65536) (few : length new < 2 ^ 63) (d b : List ℕ) (c : ChangedAs d cp new b) where
-  pub find_new : (work : List ℕ) (r : ObjectFound) (after : List ℕ) → FindsParam b cp work r after → Gets b (length c.at.head) cp new work r after
+  pub find_new : (work : List ℕ) (r : Result DdmObject Refused) (after : List ℕ) → FindsParam b cp work r after → Gets b (length c.at.head) cp new work r after
   find_new work r after p =
       let n : ℕ = 0 + reached c.at.before in
       let e : n ≡ length c.at.head = omega (arith, pieces_reach c.at.head_reads) in

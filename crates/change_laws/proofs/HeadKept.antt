@@ -1,5 +1,6 @@
 -- Format byte and correlation are copied as they are: where continue on error and 0x80 are clear in the frame given, the frame after is
 -- what the writer lays down of the head that was read.
+use Rattle.std.specs.Prelude.{Result, Ok, Err}
 use Prim.Native.Nat.{ℕ, ◌+◌, ◌*◌, ◌-◌, ◌/◌, ◌%◌, ◌≤◌, ◌<◌}
 use native.Mathlib.Omega.{arith}
 use mathlib.Core.Path.{◌≡◌, refl, sym, ◌∙◌, ap, ap₂}
@@ -18,13 +19,11 @@ use Rattle.dss_head.specs.declared.DssType.{DssType}
 use Rattle.dss_head.specs.declared.DssType.TheVariants.{Request}
 use Rattle.dss_head.specs.declared.DssFlags.{DssFlags}
 use Rattle.dss_head.specs.declared.DssHeader.{DssHeader}
-use Rattle.dss_head.specs.declared.TypeFound.{TypeFound}
-use Rattle.dss_head.specs.declared.TypeFound.TheVariants.{Is, Refused as NoType}
-use Rattle.dss_head.specs.declared.HeadFound.TheVariants.{Head}
 use Rattle.dss_frame.specs.Written.{Sent, head_of, written}
 use Rattle.ddm_change.specs.inner.Outlay.{raw_first, outlaid}
 use Rattle.ddm_change.proofs.Reframing.{written_is, reframed_is}
 use Rattle.ddm_change.specs.Request.{reframed}
+use Rattle.answer.specs.declared.Refused.{Refused}
 
 -- the frame that has the head and the payload
 abbrev pub sent_of : DssHeader → List ℕ → Sent
@@ -45,7 +44,7 @@ weigh w b =
 abbrev flags_kept : ℕ → DssFlags
 flags_kept b = record { chained = bit 0x40 b; continue_on_error = false; same_correlation = bit 0x10 b }
 
-format_is : (b : ℕ) (t : DssType) → b < 256 → type_at b 0 ≡ Is t → bit 0x20 b ≡ false → bit 0x80 b ≡ false → b ≡ type_byte t + flags_byte (flags_kept b)
+format_is : (b : ℕ) (t : DssType) → b < 256 → type_at b 0 ≡ Ok t → bit 0x20 b ≡ false → bit 0x80 b ≡ false → b ≡ type_byte t + flags_byte (flags_kept b)
 format_is b t h e c d =
     let n : b / 0x20 % 2 ≡ 1 → ⊥ = eqb-false (b / 0x20 % 2) 1 c in
     let m : b / 0x80 % 2 ≡ 1 → ⊥ = eqb-false (b / 0x80 % 2) 1 d in
@@ -77,7 +76,7 @@ module _ (s : List ℕ) where
   abbrev head_was : DssType → DssHeader
   head_was t = record { length = length_of (be16 s 0); dss_type = t; flags = flags_of (get_or s 3 0); correlation_id = be16 s 4 }
 
-  kept : (t : DssType) → Octets s → 6 ≤ length s → get_or s 2 0 ≡ 0xD0 → type_at (get_or s 3 0) 0 ≡ Is t → bit 0x20 (get_or s 3 0) ≡ false → bit 0x80 (get_or s 3 0) ≡ false
+  kept : (t : DssType) → Octets s → 6 ≤ length s → get_or s 2 0 ≡ 0xD0 → type_at (get_or s 3 0) 0 ≡ Ok t → bit 0x20 (get_or s 3 0) ≡ false → bit 0x80 (get_or s 3 0) ≡ false
       → (payload : List ℕ) → reframed s payload ≡ written (sent_of (head_was t) payload)
   kept t o six m e c d payload =
       let n : ℕ = length payload in
@@ -90,19 +89,19 @@ module _ (s : List ℕ) where
       ∙ sym (written_is (sent_of (head_was t) payload))
 
 -- the frame after is what the writer lays down
-pub head_kept : (s : List ℕ) (h : DssHeader) → Octets s → head_at s 0 ≡ Head h → h.flags.continue_on_error ≡ false → bit 0x80 (get_or s 3 0) ≡ false
+pub head_kept : (s : List ℕ) (h : DssHeader) → Octets s → head_at s 0 ≡ Ok h → h.flags.continue_on_error ≡ false → bit 0x80 (get_or s 3 0) ≡ false
     → (payload : List ℕ) → reframed s payload ≡ written (sent_of h payload)
 head_kept s h o e c d payload =
     picked (ltb (length s - 0) 6) e (λ _ k. absurd (found_refused h _ (sym k))) (λ t e.
     picked (eqb (get_or s 2 0) 0xD0) e
     (λ u k. go (omega (arith, ltb-false (length s - 0) 6 t)) (eqb-true (get_or s 2 0) 0xD0 u) (type_at (get_or s 3 0) 0) refl k) (λ _ k. absurd (found_refused h _ (sym k))))
   where
-    go : 6 ≤ length s → get_or s 2 0 ≡ 0xD0 → (x : TypeFound) → type_at (get_or s 3 0) 0 ≡ x → head_with s 0 x ≡ Head h
+    go : 6 ≤ length s → get_or s 2 0 ≡ 0xD0 → (x : Result DssType Refused) → type_at (get_or s 3 0) 0 ≡ x → head_with s 0 x ≡ Ok h
         → reframed s payload ≡ written (sent_of h payload)
-    go six m (Is t) q k =
+    go six m (Ok t) q k =
         let w : head_was s t ≡ h = cc in
         kept s t o six m q (ap (λ (x : DssHeader). x.flags.continue_on_error) w ∙ c) d payload ∙ ap (λ (x : DssHeader). written (sent_of x payload)) w
-    go six m (NoType r) q k = absurd (found_refused h r (sym k))
+    go six m (Err r) q k = absurd (found_refused h r (sym k))
 
 -- ---- met, and needed
 
@@ -124,11 +123,11 @@ unfolding reframed
 differs format h t e = eqb-false format _ t (ap (λ (l : List ℕ). get_or l 3 0) e)
 
 -- with continue on error set the frame after isn't what the writer lays down, which never sets it
-pub clear_needed : ((s : List ℕ) (h : DssHeader) → Octets s → head_at s 0 ≡ Head h → bit 0x80 (get_or s 3 0) ≡ false
+pub clear_needed : ((s : List ℕ) (h : DssHeader) → Octets s → head_at s 0 ≡ Ok h → bit 0x80 (get_or s 3 0) ≡ false
     → (payload : List ℕ) → reframed s payload ≡ written (sent_of h payload)) → ⊥
 clear_needed f = differs 0x71 (read true) refl (f (given 0x71) (read true) (octets_tested (given 0x71) refl) refl refl [])
 
 -- nor with 0x80 set, which the reader drops
-pub high_needed : ((s : List ℕ) (h : DssHeader) → Octets s → head_at s 0 ≡ Head h → h.flags.continue_on_error ≡ false
+pub high_needed : ((s : List ℕ) (h : DssHeader) → Octets s → head_at s 0 ≡ Ok h → h.flags.continue_on_error ≡ false
     → (payload : List ℕ) → reframed s payload ≡ written (sent_of h payload)) → ⊥
 high_needed f = differs 0xD1 (read false) refl (f (given 0xD1) (read false) (octets_tested (given 0xD1) refl) refl refl [])

@@ -1,5 +1,6 @@
 -- A frame with another payload is read as the first one was: by the reader's rules one frame, with that payload, and with the same head but
 -- for its length. Whatever the four bytes behind its length are.
+use Rattle.std.specs.Prelude.{Result, Ok, Err}
 use Prim.Native.Nat.{ℕ, ◌+◌, ◌-◌, ◌*◌, ◌%◌, ◌≤◌, ◌<◌}
 use native.Mathlib.Omega.{arith}
 use mathlib.Core.Path.{◌≡◌, refl, sym, ◌∙◌, ap, ap₂, subst}
@@ -14,10 +15,6 @@ use Rattle.wire.proofs.WireLaws.{pick_yes, pick_no, picked, and_both}
 use Rattle.dss_head.specs.Heads.{head_at, head_with, length_of, type_at, flags_of}
 use Rattle.dss_head.specs.declared.DssHeader.{DssHeader}
 use Rattle.dss_head.specs.declared.DssType.TheVariants.{Request}
-use Rattle.dss_head.specs.declared.TypeFound.{TypeFound}
-use Rattle.dss_head.specs.declared.TypeFound.TheVariants.{Is, Refused as NoType}
-use Rattle.dss_head.specs.declared.HeadFound.{HeadFound}
-use Rattle.dss_head.specs.declared.HeadFound.TheVariants.{Head, Refused as Refuses}
 use Rattle.dss_frame.specs.declared.Rules.TheVariants.{Reader}
 use Rattle.dss_frame.specs.Segments.{Segment, Walk, whole, short, dead, payload_of, end_of, frame_walk}
 use Rattle.dss_frame.specs.Reading.{Frame, frame}
@@ -32,6 +29,8 @@ use Rattle.ddm_change.specs.inner.Outlay.{raw_first, outlaid}
 use Rattle.ddm_change.proofs.Reframing.{written_is, reframed_is, reframed_length}
 use Rattle.ddm_change.specs.Request.{reframed, unreadable}
 use Rattle.change_laws.proofs.HeadKept.{part_six}
+use Rattle.dss_head.specs.declared.DssType.{DssType}
+use Rattle.answer.specs.declared.Refused.{Refused}
 
 pub clash : {P : Type 0} → ◌≡◌ {A = ℕ} 0 1 → P
 clash e = absurd (omega arith)
@@ -42,15 +41,15 @@ clash e = absurd (omega arith)
 abbrev pub relength : ℕ → DssHeader → DssHeader
 relength n h = record { length = n; dss_type = h.dss_type; flags = h.flags; correlation_id = h.correlation_id }
 
-head_read : (s : List ℕ) (f : Frame) → alone_at Reader s 0 ≡ frame f → head_at s 0 ≡ Head f.head
+head_read : (s : List ℕ) (f : Frame) → alone_at Reader s 0 ≡ frame f → head_at s 0 ≡ Ok f.head
 unfolding alone_at
 head_read s f e = picked (leb 0 (length s)) e (λ _ k. by_walk (frame_walk Reader s 0) k) (λ _ k. clash cc)
   where
-    by_head : (gs : List Segment) (h : HeadFound) → alone_head s 0 gs h ≡ frame f → h ≡ Head f.head
-    by_head gs (Refuses r) k = clash cc
-    by_head gs (Head h) k = picked (ltb (be16 s 0) 6) k (λ _ q. clash cc) (λ _ q. cc)
+    by_head : (gs : List Segment) (h : Result DssHeader Refused) → alone_head s 0 gs h ≡ frame f → h ≡ Ok f.head
+    by_head gs (Err r) k = clash cc
+    by_head gs (Ok h) k = picked (ltb (be16 s 0) 6) k (λ _ q. clash cc) (λ _ q. cc)
 
-    by_walk : (x : Walk) → alone_walk s 0 x ≡ frame f → head_at s 0 ≡ Head f.head
+    by_walk : (x : Walk) → alone_walk s 0 x ≡ frame f → head_at s 0 ≡ Ok f.head
     by_walk short k = clash cc
     by_walk (dead q) k = clash cc
     by_walk (whole gs) k = by_head gs (head_at s 0) k
@@ -59,18 +58,18 @@ head_read s f e = picked (leb 0 (length s)) e (λ _ k. by_walk (frame_walk Reade
 abbrev about : List ℕ → ℕ → List ℕ → List ℕ
 about s raw rest = two raw ++ (get_or s 2 0 ∷ get_or s 3 0 ∷ get_or s 4 0 ∷ get_or s 5 0 ∷ rest)
 
-head_same : (s : List ℕ) (raw : ℕ) (rest : List ℕ) (h : DssHeader) → head_at s 0 ≡ Head h
-    → head_at (about s raw rest) 0 ≡ Head (relength (length_of (be16 (about s raw rest) 0)) h)
+head_same : (s : List ℕ) (raw : ℕ) (rest : List ℕ) (h : DssHeader) → head_at s 0 ≡ Ok h
+    → head_at (about s raw rest) 0 ≡ Ok (relength (length_of (be16 (about s raw rest) 0)) h)
 head_same s raw rest h e =
     picked (ltb (length s - 0) 6) e (λ _ k. clash cc) (λ _ k.
     picked (eqb (get_or s 2 0) 0xD0) k
     (λ u k. pick_no _ _ (le-ltb (length (about s raw rest) - 0) 6 (omega arith)) ∙ pick_yes _ _ u ∙ go (type_at (get_or s 3 0) 0) k) (λ _ k. clash cc))
   where
-    go : (t : TypeFound) → head_with s 0 t ≡ Head h → head_with (about s raw rest) 0 t ≡ Head (relength (length_of (be16 (about s raw rest) 0)) h)
-    go (NoType r) k = clash cc
-    go (Is t) k =
+    go : (t : Result DssType Refused) → head_with s 0 t ≡ Ok h → head_with (about s raw rest) 0 t ≡ Ok (relength (length_of (be16 (about s raw rest) 0)) h)
+    go (Err r) k = clash cc
+    go (Ok t) k =
         let z : record { length = length_of (be16 s 0); dss_type = t; flags = flags_of (get_or s 3 0); correlation_id = be16 s 4 } ≡ h = cc in
-        ap (λ (d : DssHeader). Head (relength (length_of (be16 (about s raw rest) 0)) d)) z
+        ap (λ (d : DssHeader). Ok (relength (length_of (be16 (about s raw rest) 0)) d)) z
 
 -- ---- frames by their length fields
 
@@ -78,7 +77,7 @@ long : {n : ℕ} {b : List ℕ} → Framed n b → 6 ≤ be16 b 0
 long (single h e w) = omega arith
 long (several k r e lo hi w) = omega (arith, w.starts)
 
-module _ {n : ℕ} {b : List ℕ} (x : Framed n b) (u : Even n → ⊥) (h : DssHeader) (e : head_at b 0 ≡ Head h) where
+module _ {n : ℕ} {b : List ℕ} (x : Framed n b) (u : Even n → ⊥) (h : DssHeader) (e : head_at b 0 ≡ Ok h) where
   abbrev framed : Frame
   framed = record { head = h; segments = segments_of x 0 }
 
@@ -155,7 +154,7 @@ module _ (s p : List ℕ) (six : 6 ≤ length s) where
       let starts : be16 (written g) 0 ≡ be16 (reframed s p) 0 = ap (λ (l : List ℕ). be16 l 0) (written_is g) ∙ sym (ap (λ (l : List ℕ). be16 l 0) after_is) in
       let behind : drop 6 (written g) ≡ drop 6 (reframed s p) = ap (drop 6) (written_is g) ∙ sym (ap (drop 6) after_is) in
       let x = refit (written g) (reframed s p) starts behind (written_size g ∙ sym (reframed_length s p six)) (framed_written g) in
-      let head : head_at (reframed s p) 0 ≡ Head (relength (length_of (be16 (reframed s p) 0)) f.head) =
+      let head : head_at (reframed s p) 0 ≡ Ok (relength (length_of (be16 (reframed s p) 0)) f.head) =
       rw after_is (head_same s (raw_first (length p)) (outlaid (length p) 0 p) f.head (head_read s f e)) in
       let u : Even (length p) → ⊥ = not_even (length p) t in
       record {

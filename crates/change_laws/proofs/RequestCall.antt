@@ -1,4 +1,5 @@
 -- What an answer of `change_request` says, and what the room then holds.
+use Rattle.std.specs.Prelude.{Ok, Err}
 use Prim.Native.Nat.{ℕ, ◌≤◌}
 use mathlib.Core.Path.{◌≡◌, refl}
 use mathlib.Core.List.{List, [], ◌∷◌, ◌++◌}
@@ -7,7 +8,6 @@ use Rattle.wire.specs.Bytes.{laid}
 use Rattle.answer.specs.declared.Refusal.TheVariants.{Incomplete}
 use Rattle.ddm_object.specs.Objects.{parameters}
 use Rattle.answer.specs.declared.Refused.{Refused}
-use Rattle.answer.specs.declared.Laid.TheVariants.{Bytes, Refused as NotLaid}
 use Rattle.change_laws.proofs.ChangeLays.{never, lays_done, lays_kept}
 use Rattle.ddm_change.specs.Request.{Changed, lays_frame, refuses_it, request_of, request_answer, request_room, ChangesRequest}
 
@@ -20,20 +20,20 @@ pub record LaysFrame (s : List ℕ) (cp : ℕ) (new room : List ℕ) (n : ℕ) (
   pub room_is : after ≡ bytes ++ drop n room
 
 module _ (s : List ℕ) (cp : ℕ) (new room : List ℕ) (after : List ℕ) where
-  pub done_frame : (n : ℕ) → ChangesRequest s cp new room (Bytes n) after → LaysFrame s cp new room n after
+  pub done_frame : (n : ℕ) → ChangesRequest s cp new room (Ok n) after → LaysFrame s cp new room n after
   done_frame n p = go (request_of s cp new) refl p.answers p.room_is
     where
-      go : (c : Changed) → request_of s cp new ≡ c → Bytes n ≡ request_answer c (length room) → after ≡ request_room c room → LaysFrame s cp new room n after
+      go : (c : Changed) → request_of s cp new ≡ c → Ok n ≡ request_answer c (length room) → after ≡ request_room c room → LaysFrame s cp new room n after
       go (lays_frame b) q e a =
           let l = lays_done b room after n (record { answers = e; room_is = a }) in
           record { bytes = b; is = q; many = l.many; fits = l.fits; room_is = l.room_is }
       go (refuses_it r) q e a = never e
 
   -- every other answer leaves the room as it was
-  pub refused_keeps : (x : Refused) → ChangesRequest s cp new room (NotLaid x) after → after ≡ room
+  pub refused_keeps : (x : Refused) → ChangesRequest s cp new room (Err x) after → after ≡ room
   refused_keeps x p = go (request_of s cp new) p.answers p.room_is
     where
-      go : (c : Changed) → NotLaid x ≡ request_answer c (length room) → after ≡ request_room c room → after ≡ room
+      go : (c : Changed) → Err x ≡ request_answer c (length room) → after ≡ request_room c room → after ≡ room
       go (lays_frame b) e a = lays_kept b room after x (record { answers = e; room_is = a })
       go (refuses_it r) e a = a
 

@@ -1,4 +1,5 @@
 -- Data without a fault are parameters one behind the other up to the last byte, each of which says by its own bytes how long it is.
+use Rattle.std.specs.Prelude.{Some, None}
 use Prim.Native.Nat.{ℕ, ◌+◌, ◌≤◌}
 use native.Mathlib.Omega.{arith}
 use mathlib.Core.Path.{◌≡◌, refl, sym, ◌∙◌, ap, subst}
@@ -18,7 +19,7 @@ use Rattle.ddm_object.proofs.ParamWalks.{found, sized, front, takes_all, Walks, 
 use Rattle.ddm_laws.proofs.BuiltLists.{BuiltPieces, more, reached}
 use Rattle.ddm_laws.proofs.BuiltLists as Lists
 use Rattle.ddm_change.specs.Change.{fault_from, first_from}
-use Rattle.ddm_change.specs.declared.Spot.TheVariants.{Nowhere, At}
+use Rattle.ddm_change.specs.Change.{spot}
 
 -- ---- raw lengths
 
@@ -167,17 +168,17 @@ split cp (more {p = p} {s = s} {o = o} {os = os} r ps) =
     further n (inr k) = inr (n, k)
 
 pub first_there : (cp place : ℕ) (before : List Object) (o : Object) (after : List Object) → LacksParam cp before → o.code_point ≡ cp
-    → first_from cp place (before ++ (o ∷ after)) ≡ At (place + reached before) (place + reached before + o.consumed)
+    → first_from cp place (before ++ (o ∷ after)) ≡ Some (spot (place + reached before) (place + reached before + o.consumed))
 unfolding first_from
 first_there cp place [] o after l e =
     let z : place ≡ place + 0 = omega arith in
-    pick_yes _ _ (eq-eqb o.code_point cp e) ∙ ap (λ (n : ℕ). At n (n + o.consumed)) z
+    pick_yes _ _ (eq-eqb o.code_point cp e) ∙ ap (λ (n : ℕ). Some (spot n (n + o.consumed))) z
 first_there cp place (x ∷ before) o after l e =
     let z : place + x.consumed + reached before ≡ place + (x.consumed + reached before) = omega arith in
     pick_no _ _ (ne_eqb x.code_point cp l.0) ∙ first_there cp (place + x.consumed) before o after l.1 e
-    ∙ ap (λ (n : ℕ). At n (n + o.consumed)) z
+    ∙ ap (λ (n : ℕ). Some (spot n (n + o.consumed))) z
 
-pub first_Nowhere : (cp place : ℕ) (os : List Object) → LacksParam cp os → first_from cp place os ≡ Nowhere
+pub first_Nowhere : (cp place : ℕ) (os : List Object) → LacksParam cp os → first_from cp place os ≡ None
 unfolding first_from
 first_Nowhere cp place [] l = refl
 first_Nowhere cp place (x ∷ os) l = pick_no _ _ (ne_eqb x.code_point cp l.0) ∙ first_Nowhere cp (place + x.consumed) os l.1

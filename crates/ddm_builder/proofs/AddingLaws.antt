@@ -1,4 +1,5 @@
 -- What adding to a builder, and laying an object down, come to, from what the test for room says.
+use Rattle.std.specs.Prelude.{Ok, Err}
 use Prim.Native.Nat.{ℕ, ◌+◌, ◌-◌, ◌≤◌, ◌<◌}
 use native.Mathlib.Omega.{arith}
 use mathlib.Core.Path.{◌≡◌, sym}
@@ -11,15 +12,12 @@ use Rattle.wire.proofs.WireLaws.{picked, pick_yes, pick_no}
 use Rattle.wire.proofs.Splicing.{laid_kept}
 use Rattle.answer.specs.Rooms.{no_room, room_for}
 use Rattle.answer.specs.declared.Refused.{Refused}
-use Rattle.answer.specs.declared.Laid.TheVariants.{Bytes, Refused as NotLaid}
-use Rattle.answer.specs.declared.RoomFor.TheVariants.{Enough, Refused as Refuses}
 use Rattle.ddm_builder.specs.Builder.{Adds}
 use Rattle.ddm_builder.specs.inner.FormsLaid.{LaysAt}
 use Rattle.ddm_builder.specs.declared.DdmBuilder.{DdmBuilder}
-use Rattle.ddm_builder.specs.declared.Added.TheVariants.{Done, Refused as NotAdded}
 
 -- there is room
-pub enough_fits : (mark size need : ℕ) → room_for mark size need ≡ Enough → (mark ≤ size) × (need ≤ size - mark)
+pub enough_fits : (mark size need : ℕ) → room_for mark size need ≡ Ok tt → (mark ≤ size) × (need ≤ size - mark)
 enough_fits mark size need e =
     picked (leb mark size) e
     (λ a r. picked (leb need (size - mark)) r (λ b q. (leb-true mark size a, leb-true need (size - mark) b))
@@ -27,7 +25,7 @@ enough_fits mark size need e =
     (λ a r. absurd (let z : ◌≡◌ {A = ℕ} 0 1 = cc in omega arith))
 
 -- there is none
-pub refused_short : (mark size need : ℕ) (r : Refused) → room_for mark size need ≡ Refuses r → size < mark + need
+pub refused_short : (mark size need : ℕ) (r : Refused) → room_for mark size need ≡ Err r → size < mark + need
 refused_short mark size need r e =
     picked (leb mark size) e
     (λ a q. picked (leb need (size - mark)) q (λ b p. absurd (let z : ◌≡◌ {A = ℕ} 0 1 = cc in omega arith))
@@ -35,11 +33,11 @@ refused_short mark size need r e =
     (λ a q. omega (arith, leb-false mark size a))
 
 module _ (b : DdmBuilder) (bytes room : List ℕ) where
-  pub adds_enough : (n : ℕ) (after : List ℕ) → length bytes ≡ n → room_for b.fill (length room) n ≡ Enough → after ≡ laid room b.fill bytes
-      → Adds b bytes room (Done (record { code_point = b.code_point; fill = b.fill + n })) after
+  pub adds_enough : (n : ℕ) (after : List ℕ) → length bytes ≡ n → room_for b.fill (length room) n ≡ Ok tt → after ≡ laid room b.fill bytes
+      → Adds b bytes room (Ok (record { code_point = b.code_point; fill = b.fill + n })) after
   adds_enough n after l e a = record { answers = sym (rw (l, e)); room_is = a }
 
-  pub adds_refused : (n : ℕ) (r : Refused) → length bytes ≡ n → room_for b.fill (length room) n ≡ Refuses r → Adds b bytes room (NotAdded r) room
+  pub adds_refused : (n : ℕ) (r : Refused) → length bytes ≡ n → room_for b.fill (length room) n ≡ Err r → Adds b bytes room (Err r) room
   adds_refused n r l e =
       record {
         answers = sym (rw (l, e));
@@ -49,10 +47,10 @@ module _ (b : DdmBuilder) (bytes room : List ℕ) where
 -- ---- at a room's first byte
 
 module _ (place : ℕ) (bytes room : List ℕ) (n : ℕ) (l : length bytes ≡ n) where
-  pub lays_enough : (after : List ℕ) → n ≤ length room → after ≡ laid room 0 bytes → LaysAt place bytes room (Bytes n) after
+  pub lays_enough : (after : List ℕ) → n ≤ length room → after ≡ laid room 0 bytes → LaysAt place bytes room (Ok n) after
   lays_enough after h a = record { answers = sym (rw l (pick_yes _ _ (le-leb n (length room) h))); room_is = a }
 
-  pub lays_refused : length room < n → LaysAt place bytes room (NotLaid (no_room place n 0)) room
+  pub lays_refused : length room < n → LaysAt place bytes room (Err (no_room place n 0)) room
   lays_refused h =
       record {
         answers = sym (rw l (pick_no _ _ (lt-leb n (length room) h)));

@@ -1,12 +1,11 @@
 -- Any two outcomes that a contract of this crate allows are equal. Each statement names the contract, and doesn't write it again.
+use Rattle.std.specs.Prelude.{Result}
 use Prim.Native.Nat.{ℕ}
 use mathlib.Core.Path.{◌≡◌, sym, ◌∙◌}
 use mathlib.Core.List.{List}
 use contract.Lifetimes.{Lfts}
 use denote.Ref.{Bor, MutBor, at_last}
-use Rattle.answer.specs.declared.Laid.{Laid}
 use Rattle.ddm_builder.specs.declared.DdmBuilder.{DdmBuilder}
-use Rattle.ddm_builder.specs.declared.Added.{Added}
 use Rattle.ddm_builder.proofs.extended_length_byte_count.Reads as extended_length_byte_count
 use Rattle.ddm_builder.proofs.serialized_header_len.Reads as serialized_header_len
 use Rattle.ddm_builder.proofs.built_size.Reads as built_size
@@ -21,6 +20,7 @@ use Rattle.ddm_builder.proofs.DdmBuilder.total_length.Reads as total_length
 use Rattle.ddm_builder.proofs.build_param.Reads as build_param
 use Rattle.ddm_builder.proofs.build_param_u16.Reads as build_param_u16
 use Rattle.ddm_builder.proofs.build_ddm_object.Reads as build_ddm_object
+use Rattle.answer.specs.declared.Refused.{Refused}
 
 -- ---- lengths
 
@@ -44,7 +44,7 @@ lay_header_one κs cp n room l l' p q = p ∙ sym q
 pub new_one : (κs : Lfts 0) (cp : ℕ) (r r' : DdmBuilder) → new.Post κs (cp, tt) r (cp, tt) → new.Post κs (cp, tt) r' (cp, tt) → r ≡ r'
 new_one κs cp r r' p q = p ∙ sym q
 
-module _ (b : DdmBuilder) (cp n : ℕ) (d : Bor (List ℕ)) (room : MutBor (List ℕ)) (r r' : Added) (l l' : List ℕ) where
+module _ (b : DdmBuilder) (cp n : ℕ) (d : Bor (List ℕ)) (room : MutBor (List ℕ)) (r r' : Result DdmBuilder Refused) (l l' : List ℕ) where
   pub add_code_point_one : (κs : Lfts 2) → add_code_point.Post κs (b, (cp, (d, (room, tt)))) r (b, (cp, (d, (at_last room l, tt))))
       → add_code_point.Post κs (b, (cp, (d, (room, tt)))) r' (b, (cp, (d, (at_last room l', tt)))) → (r ≡ r') × (l ≡ l')
   add_code_point_one κs p q = (p.answers ∙ sym q.answers, p.room_is ∙ sym q.room_is)
@@ -66,7 +66,7 @@ total_length_one κs b r r' p q = p ∙ sym q
 
 -- ---- objects laid down at a room's start
 
-module _ (cp n : ℕ) (d : Bor (List ℕ)) (room : MutBor (List ℕ)) (r r' : Laid) (l l' : List ℕ) where
+module _ (cp n : ℕ) (d : Bor (List ℕ)) (room : MutBor (List ℕ)) (r r' : Result ℕ Refused) (l l' : List ℕ) where
   pub build_one : (κs : Lfts 2) (b : DdmBuilder) → build.Post κs (b, (d, (room, tt))) r (b, (d, (at_last room l, tt)))
       → build.Post κs (b, (d, (room, tt))) r' (b, (d, (at_last room l', tt))) → (r ≡ r') × (l ≡ l')
   build_one κs b p q = (p.answers ∙ sym q.answers, p.room_is ∙ sym q.room_is)

@@ -1,4 +1,5 @@
 -- The data after: how long they are, and what laying them down, or refusing to, comes to. And data as they lie, carried by themselves.
+use Rattle.std.specs.Prelude.{Result, Ok, Err}
 use Prim.Native.Nat.{ℕ, ◌+◌, ◌-◌, ◌^◌, ◌≤◌, ◌<◌}
 use native.Mathlib.Omega.{arith}
 use mathlib.Core.Path.{◌≡◌, refl, sym, ◌∙◌, ap}
@@ -11,8 +12,6 @@ use Rattle.wire.proofs.WireLaws.{by, pick_yes, pick_no, part_length}
 use Rattle.wire.proofs.LentParts.{tail_drop}
 use Rattle.wire.proofs.Splicing.{laid_kept}
 use Rattle.answer.specs.Rooms.{capped, no_room, Lays}
-use Rattle.answer.specs.declared.Laid.{Laid}
-use Rattle.answer.specs.declared.Laid.TheVariants.{Bytes, Refused as NotLaid}
 use Rattle.answer.specs.declared.Refusal.TheVariants.{NoRoom}
 use Rattle.dss_writer.proofs.LayingLaws.{capped_same}
 use Rattle.ddm_builder.specs.Built.{length_bytes, built, built_size}
@@ -20,6 +19,7 @@ use Rattle.ddm_builder.proofs.BuiltForms.{length_built}
 use Rattle.ddm_change.specs.Change.{changed, faulty, lacking, change_of, unsound, no_such, Changes}
 use Rattle.ddm_change.specs.inner.Carried.{SoundCarriage, carried_bytes, carried}
 use Rattle.ddm_change.specs.declared.Carriage.{Carriage}
+use Rattle.answer.specs.declared.Refused.{Refused}
 
 -- ---- numbers that are given as 2^64 - 1 where they are more
 
@@ -81,28 +81,28 @@ module _ (d : List ℕ) (from to cp : ℕ) (new : List ℕ) (ordered : from ≤ 
 
 module _ (bytes room : List ℕ) (n : ℕ) (l : length bytes ≡ n) where
   -- 9, with a need that may be more than 2^64 - 1
-  pub lays_none : length room < capped n → Lays bytes room (NotLaid (no_room 0 (capped n) 0)) room
+  pub lays_none : length room < capped n → Lays bytes room (Err (no_room 0 (capped n) 0)) room
   lays_none h =
       record {
         answers =
-            ap (λ (k : ℕ). NotLaid (record { why = NoRoom k 0; place = 0 })) (capped_same (capped n) (omega (arith, capped_most n)))
+            ap (λ (k : ℕ). Err (record { why = NoRoom k 0; place = 0 })) (capped_same (capped n) (omega (arith, capped_most n)))
             ∙ sym (rw l (pick_no _ _ (lt-leb n (length room) (omega (arith, capped_most n)))));
         room_is = sym (laid_kept room 0 bytes (omega (arith, capped_most n)));
       }
 
-  pub lays_some : (after : List ℕ) → n ≤ length room → after ≡ laid room 0 bytes → Lays bytes room (Bytes n) after
+  pub lays_some : (after : List ℕ) → n ≤ length room → after ≡ laid room 0 bytes → Lays bytes room (Ok n) after
   lays_some after h a = record { answers = sym (rw l (pick_yes _ _ (le-leb n (length room) h))); room_is = a }
 
 -- what was laid down is what changing comes to
-pub changes_laid : (d : List ℕ) (cp : ℕ) (new room : List ℕ) (r : Laid) (after b : List ℕ) → change_of d cp new ≡ changed b → Lays b room r after
+pub changes_laid : (d : List ℕ) (cp : ℕ) (new room : List ℕ) (r : Result ℕ Refused) (after b : List ℕ) → change_of d cp new ≡ changed b → Lays b room r after
     → Changes d cp new room r after
 changes_laid d cp new room r after b e p = record { answers = p.answers ∙ sym (rw e); room_is = p.room_is ∙ sym (rw e) }
 
 module _ (d : List ℕ) (cp : ℕ) (new room : List ℕ) where
-  pub faulty_laid : (place : ℕ) → change_of d cp new ≡ faulty place → Changes d cp new room (NotLaid (unsound place)) room
+  pub faulty_laid : (place : ℕ) → change_of d cp new ≡ faulty place → Changes d cp new room (Err (unsound place)) room
   faulty_laid place e = record { answers = sym (rw e); room_is = sym (rw e) }
 
-  pub lacks_laid : change_of d cp new ≡ lacking → Changes d cp new room (NotLaid no_such) room
+  pub lacks_laid : change_of d cp new ≡ lacking → Changes d cp new room (Err no_such) room
   lacks_laid e = record { answers = sym (rw e); room_is = sym (rw e) }
 
 -- ---- data as they lie

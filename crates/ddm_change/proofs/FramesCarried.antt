@@ -1,4 +1,5 @@
 -- The one frame of a request carries its payload: how many continuations, which bytes, and where each of them stands.
+use Rattle.std.specs.Prelude.{Result, Ok, Err}
 use Prim.Native.Nat.{ℕ, suc, ◌+◌, ◌*◌, ◌-◌, ◌≤◌, ◌<◌}
 use native.Mathlib.Omega.{arith}
 use mathlib.Core.Path.{◌≡◌, refl, sym, ap, ap₂, subst, ◌∙◌}
@@ -11,8 +12,6 @@ use Rattle.wire.specs.Bytes.{be16, part}
 use Rattle.wire.proofs.WireLaws.{by, pick_by}
 use Rattle.dss_head.specs.Heads.{head_at}
 use Rattle.dss_head.specs.declared.DssHeader.{DssHeader}
-use Rattle.dss_head.specs.declared.HeadFound.{HeadFound}
-use Rattle.dss_head.specs.declared.HeadFound.TheVariants.{Head, Refused as Refuses}
 use Rattle.dss_frame.specs.declared.Rules.TheVariants.{Reader}
 use Rattle.dss_frame.specs.Segments.{Segment, Walk, behind, first, frame_walk, payload_of, end_of}
 use Rattle.dss_frame.specs.Reading.{Frame, frame}
@@ -25,6 +24,7 @@ use Rattle.ddm_change.proofs.CarriedLaws.{passed_none, passed_is}
 use Rattle.ddm_change.proofs.AloneLaws.{alone_as}
 use Rattle.ddm_change.proofs.Continued.{FollowOn, continuations_follow, taken_rest, taken_full, taken_next, later_payload, later_length, place_in_lem, place_behind, place_last, later_places, passed_behind}
 use Rattle.ddm_change.specs.declared.Carriage.{Carriage}
+use Rattle.answer.specs.declared.Refused.{Refused}
 
 -- ---- its segments
 
@@ -120,9 +120,9 @@ shape_carries s h gs x (several rest r) =
 alone_carries : (s : List ℕ) → OfFrame (Carries s) (alone_at Reader s 0)
 alone_carries s = subst (OfFrame (Carries s)) (sym (alone_as s)) (by_walk (frame_walk Reader s 0) (walk_shape s))
   where
-    by_head : (gs : List Segment) → Shape s gs → (h : HeadFound) → OfFrame (Carries s) (alone_head s 0 gs h)
-    by_head gs g (Refuses r) = is_refused r
-    by_head gs g (Head h) =
+    by_head : (gs : List Segment) → Shape s gs → (h : Result DssHeader Refused) → OfFrame (Carries s) (alone_head s 0 gs h)
+    by_head gs g (Err r) = is_refused r
+    by_head gs g (Ok h) =
         pick_by (OfFrame (Carries s)) (ltb (be16 s 0) 6) _ _ (λ e. is_refused _) (λ e. is_frame _ (shape_carries s h gs (ltb-false _ _ e) g))
 
     by_walk : (w : Walk) → OfWhole (Shape s) w → OfFrame (Carries s) (alone_walk s 0 w)

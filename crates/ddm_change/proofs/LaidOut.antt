@@ -1,4 +1,5 @@
 -- The parts of the payload after, laid down one behind the other, are the frame after.
+use Rattle.std.specs.Prelude.{Result, Err}
 use Prim.Native.Nat.{ℕ, ◌+◌, ◌-◌, ◌^◌, ◌≤◌, ◌<◌}
 use native.Mathlib.Omega.{arith}
 use mathlib.Core.Path.{◌≡◌, sym, ◌∙◌, ap, ap₂}
@@ -12,8 +13,6 @@ use Rattle.wire.proofs.LentParts.{tail_drop}
 use Rattle.wire.proofs.Splicing.{splice_length, splice_splice}
 use Rattle.answer.specs.Rooms.{capped, Lays}
 use Rattle.answer.specs.declared.Refused.{Refused}
-use Rattle.answer.specs.declared.Laid.{Laid}
-use Rattle.answer.specs.declared.Laid.TheVariants.{Refused as NotLaid}
 use Rattle.dss_frame.specs.Written.{frame_size}
 use Rattle.dss_writer.proofs.LayingLaws.{capped_same}
 use Rattle.ddm_builder.specs.Built.{length_bytes, built, built_size}
@@ -159,8 +158,8 @@ capped_frame n =
     capped_beyond (frame_size (capped n)) (omega (arith, six_more (capped n), capped_beyond n h)) ∙ sym (capped_beyond (frame_size n) (omega (arith, six_more n))))
 
 module _ (s : List ℕ) (cp : ℕ) (new room : List ℕ) where
-  pub request_laid : (b : List ℕ) (r : Laid) (after : List ℕ) → request_of s cp new ≡ lays_frame b → Lays b room r after → ChangesRequest s cp new room r after
+  pub request_laid : (b : List ℕ) (r : Result ℕ Refused) (after : List ℕ) → request_of s cp new ≡ lays_frame b → Lays b room r after → ChangesRequest s cp new room r after
   request_laid b r after e p = record { answers = p.answers ∙ sym (rw e); room_is = p.room_is ∙ sym (rw e) }
 
-  pub request_refuses : (r : Refused) → request_of s cp new ≡ refuses_it r → ChangesRequest s cp new room (NotLaid r) room
+  pub request_refuses : (r : Refused) → request_of s cp new ≡ refuses_it r → ChangesRequest s cp new room (Err r) room
   request_refuses r e = record { answers = sym (rw e); room_is = sym (rw e) }

@@ -1,4 +1,5 @@
 -- What is known of a request before it is laid down: its one frame.
+use Rattle.std.specs.Prelude.{Ok, Err}
 use Prim.Native.Nat.{ℕ, ◌≤◌}
 use native.Mathlib.Omega.{arith}
 use mathlib.Core.Path.{◌≡◌, refl, sym, ap, ◌∙◌}
@@ -14,26 +15,26 @@ use Rattle.ddm_change.specs.Request.{refuses_it, place_in, request_object, reque
 use Rattle.ddm_change.specs.inner.Carried.{SoundCarriage, carried, passed, place_of}
 use Rattle.ddm_change.proofs.FramesCarried.{carriage_in, Carries, carries}
 use Rattle.ddm_change.specs.inner.Planning.{alone_of, Standing}
-use Rattle.ddm_change.specs.declared.Alone.TheVariants.{Frame as Stands, Refused as NotAlone}
 use Rattle.ddm_change.specs.declared.Carriage.{Carriage}
+use Rattle.ddm_change.specs.inner.Planning.{alone}
 
-never : {P : Type 0} {e k : ℕ} {r : Refused} → NotAlone r ≡ Stands e k → P
+never : {P : Type 0} {e k : ℕ} {r : Refused} → Err r ≡ Ok (alone e k) → P
 never q = absurd (let z : ◌≡◌ {A = ℕ} 0 1 = cc in omega arith)
 
 module _ (s : List ℕ) where
-  pub standing : (e k : ℕ) → alone_of (alone_at Reader s 0) ≡ Stands e k → Standing s e k
+  pub standing : (e k : ℕ) → alone_of (alone_at Reader s 0) ≡ Ok (alone e k) → Standing s e k
   standing e k q = go (alone_at Reader s 0) refl q
     where
-      go : (r : Read) → alone_at Reader s 0 ≡ r → alone_of r ≡ Stands e k → Standing s e k
+      go : (r : Read) → alone_at Reader s 0 ≡ r → alone_of r ≡ Ok (alone e k) → Standing s e k
       go (frame f) i q = record { one = f; read = i; ends = cc; many = cc }
       go (refused r) i q = never q
 
   -- 1 or 16, 2, 3, 7
-  pub request_refused : (r : Refused) → alone_of (alone_at Reader s 0) ≡ NotAlone r → (cp : ℕ) (new : List ℕ) → request_of s cp new ≡ refuses_it r
+  pub request_refused : (r : Refused) → alone_of (alone_at Reader s 0) ≡ Err r → (cp : ℕ) (new : List ℕ) → request_of s cp new ≡ refuses_it r
   unfolding request_of
   request_refused r q cp new = go (alone_at Reader s 0) q
     where
-      go : (x : Read) → alone_of x ≡ NotAlone r → request_read s cp new x ≡ refuses_it r
+      go : (x : Read) → alone_of x ≡ Err r → request_read s cp new x ≡ refuses_it r
       go (frame f) q = never (sym q)
       go (refused r') q = let z : r' ≡ r = cc in ap refuses_it z
 

@@ -1,4 +1,5 @@
 -- What is known of a request before it is laid down: its frame's one object, and what is left over behind either.
+use Rattle.std.specs.Prelude.{Result, Ok, Err}
 use Prim.Native.Nat.{ℕ, ◌+◌, ◌-◌, ◌≤◌, ◌<◌}
 use native.Mathlib.Omega.{arith}
 use mathlib.Core.Path.{◌≡◌, refl, sym, ap, subst, ◌∙◌}
@@ -14,8 +15,6 @@ use Rattle.dss_frame.specs.Segments.{payload_of, end_of}
 use Rattle.ddm_length.specs.Lengths.{measured}
 use Rattle.ddm_length.proofs.TakenLengths.{measured_taken}
 use Rattle.ddm_length.proofs.Fronts.{in_order}
-use Rattle.ddm_length.specs.declared.Marshaled.{Marshaled}
-use Rattle.ddm_length.specs.declared.Marshaled.TheVariants.{Takes, Refused as Refuses}
 use Rattle.ddm_builder.specs.Built.{built}
 use Rattle.ddm_object.specs.Objects.{Object, object, parsed, content_of}
 use Rattle.ddm_object.specs.Objects as ddm
@@ -27,6 +26,8 @@ use Rattle.ddm_change.proofs.CarriedLaws.{place_inside}
 use Rattle.ddm_change.specs.inner.Planning.{outcome, OneObject}
 use Rattle.ddm_change.proofs.PlanFrame.{Decides, place_first}
 use Rattle.ddm_change.specs.declared.Carriage.{Carriage}
+use Rattle.ddm_length.specs.declared.Marshaled.{Marshaled}
+use Rattle.ddm_length.specs.Lengths.{takes}
 
 module _ (s : List ℕ) (end : ℕ) (c : Carriage) (d : Decides s end c) where
   -- 17 where bytes are left over behind the frame
@@ -42,13 +43,13 @@ module _ (s : List ℕ) (end : ℕ) (c : Carriage) (d : Decides s end c) where
   pub over_place : (i : ℕ) → i < length (carried c (take end s)) → place_of c i < length s
   over_place i h = omega (arith, place_inside c (take end s) d.sound i h, length-take-le end s d.within, d.within)
 
-  measured_as : (m : Marshaled) → measured (carried c (take end s)) 6 ≡ m → parsed (payload_of s d.segments) 6 ≡ ddm.object_of (carried c (take end s)) m
+  measured_as : (m : Result Marshaled Refused) → measured (carried c (take end s)) 6 ≡ m → parsed (payload_of s d.segments) 6 ≡ ddm.object_of (carried c (take end s)) m
   unfolding parsed
   measured_as m e = ap (λ (l : List ℕ). parsed l 6) d.payload_is ∙ ap (ddm.object_of (carried c (take end s))) e
 
-  module _ (r : Refused) (e : measured (carried c (take end s)) 6 ≡ Refuses r) (cp : ℕ) (new : List ℕ) where
+  module _ (r : Refused) (e : measured (carried c (take end s)) 6 ≡ Err r) (cp : ℕ) (new : List ℕ) where
     comes_refused : request_of s cp new ≡ unless_behind s d.segments (refuses_it r)
-    comes_refused = d.comes cp new ∙ ap (request_object s cp new d.segments) (measured_as (Refuses r) e)
+    comes_refused = d.comes cp new ∙ ap (request_object s cp new d.segments) (measured_as (Err r) e)
 
     pub refused_behind : end < length s → request_of s cp new ≡ refuses_it (unsound end)
     refused_behind h = comes_refused ∙ behind (refuses_it r) h
@@ -57,7 +58,7 @@ module _ (s : List ℕ) (end : ℕ) (c : Carriage) (d : Decides s end c) where
     pub refused_object : length s ≤ end → request_of s cp new ≡ refuses_it r
     refused_object h = comes_refused ∙ nothing_behind (refuses_it r) h
 
-  module _ (total header : ℕ) (e : measured (carried c (take end s)) 6 ≡ Takes total header) where
+  module _ (total header : ℕ) (e : measured (carried c (take end s)) 6 ≡ Ok (takes total header)) where
     abbrev one : Object
     one = made (be16 (carried c (take end s)) 2) (content_of (carried c (take end s)) total header) total
 
@@ -68,7 +69,7 @@ module _ (s : List ℕ) (end : ℕ) (c : Carriage) (d : Decides s end c) where
         (built_of s d.segments one (change_of one.content cp new))
 
     comes_object : (cp : ℕ) (new : List ℕ) → request_of s cp new ≡ request_object s cp new d.segments (object one)
-    comes_object cp new = d.comes cp new ∙ ap (request_object s cp new d.segments) (measured_as (Takes total header) e)
+    comes_object cp new = d.comes cp new ∙ ap (request_object s cp new d.segments) (measured_as (Ok (takes total header)) e)
 
     -- or behind its one object
     pub object_over : total < length (carried c (take end s)) → (cp : ℕ) (new : List ℕ) → request_of s cp new ≡ refuses_it (unsound (place_of c total))

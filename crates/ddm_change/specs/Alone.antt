@@ -1,18 +1,18 @@
 -- A frame before anything behind it is looked at: its own segments, and the refusals of its own head.
-use Rattle.std.specs.Prelude.{ℕ, List, ltb, leb, length}
+use Rattle.std.specs.Prelude.{ℕ, List, ltb, leb, length, Result, Ok, Err}
 use Rattle.answer.specs.Rooms.{out_of_bounds}
 use Rattle.answer.specs.declared.Refusal.TheVariants.{LengthTooShort}
 use Rattle.wire.specs.Bytes.{pick, be16}
 use Rattle.dss_head.specs.Heads.{head_at}
-use Rattle.dss_head.specs.declared.HeadFound.{HeadFound}
-use Rattle.dss_head.specs.declared.HeadFound.TheVariants.{Head, Refused as Refuses}
 use Rattle.dss_frame.specs.declared.Rules.{Rules}
 use Rattle.dss_frame.specs.Segments.{Segment, Walk, frame_walk}
 use Rattle.dss_frame.specs.Reading.{Read, frame, refused, if_whole}
+use Rattle.dss_head.specs.declared.DssHeader.{DssHeader}
+use Rattle.answer.specs.declared.Refused.{Refused}
 
-abbrev pub alone_head : List ℕ → ℕ → List Segment → HeadFound → Read
-alone_head s p gs (Refuses r) = refused r
-alone_head s p gs (Head h) =
+abbrev pub alone_head : List ℕ → ℕ → List Segment → Result DssHeader Refused → Read
+alone_head s p gs (Err r) = refused r
+alone_head s p gs (Ok h) =
     pick (ltb (be16 s p) 6) (refused (record { why = LengthTooShort (be16 s p); place = p }))
     (frame (record { head = h; segments = gs }))
 

@@ -1,16 +1,13 @@
 -- Changing one parameter: document 02, W-204. `d` is an object's data, `cp` the code point, `new` the new bytes.
-use Rattle.std.specs.Prelude.{ℕ, ◌+◌, ◌-◌, ◌≡◌, List, [], ◌∷◌, ◌++◌, eqb, length, take, drop}
+use Rattle.std.specs.Prelude.{ℕ, ◌+◌, ◌-◌, ◌≡◌, List, [], ◌∷◌, ◌++◌, eqb, length, take, drop, Result, Ok, Err, Some, None}
 use Rattle.std.proofs.Math.Option.{Option, none, some}
 use Rattle.wire.specs.Bytes.{pick, be16, laid}
 use Rattle.answer.specs.Rooms.{capped, laid_at_start}
 use Rattle.answer.specs.declared.Refusal.TheVariants.{NotFound, UnsoundData}
 use Rattle.answer.specs.declared.Refused.{Refused}
-use Rattle.answer.specs.declared.Laid.{Laid}
-use Rattle.answer.specs.declared.Laid.TheVariants.{Bytes, Refused as NotLaid}
 use Rattle.ddm_builder.specs.Built.{built, built_size}
 use Rattle.ddm_object.specs.Objects.{Object, parameters}
 use Rattle.ddm_change.specs.declared.Spot.{Spot}
-use Rattle.ddm_change.specs.declared.Spot.TheVariants.{Nowhere, At}
 
 -- ---- which parameter, and whether all is sound
 
@@ -21,9 +18,12 @@ fault_from d place [] = pick (eqb place (length d)) none (some place)
 fault_from d place (o ∷ os) = pick (eqb (be16 d place) 0x8004) (some place) (fault_from d (place + o.consumed) os)
 
 -- "the first such parameter": from its first byte up to the byte after its last, or nowhere
-unfoldable pub first_from : ℕ → ℕ → List Object → Spot
-first_from cp place [] = Nowhere
-first_from cp place (o ∷ os) = pick (eqb o.code_point cp) (At place (place + o.consumed)) (first_from cp (place + o.consumed) os)
+abbrev pub spot : ℕ → ℕ → Spot
+spot from to = record { from = from; to = to }
+
+unfoldable pub first_from : ℕ → ℕ → List Object → Option Spot
+first_from cp place [] = None
+first_from cp place (o ∷ os) = pick (eqb o.code_point cp) (Some (spot place (place + o.consumed))) (first_from cp (place + o.consumed) os)
 
 -- ---- the data with that parameter rewritten
 
@@ -35,9 +35,9 @@ pub data Change : Type 0 where
 
 -- "the same data with the first such parameter rewritten as the builder would write it. All bytes before and after that parameter
 -- are copied as they are"
-abbrev pub rewritten_at : List ℕ → ℕ → List ℕ → Spot → Change
-rewritten_at d cp new Nowhere = lacking
-rewritten_at d cp new (At a e) = changed (take a d ++ (built cp new ++ drop e d))
+abbrev pub rewritten_at : List ℕ → ℕ → List ℕ → Option Spot → Change
+rewritten_at d cp new None = lacking
+rewritten_at d cp new (Some (spot a e)) = changed (take a d ++ (built cp new ++ drop e d))
 
 abbrev pub unless_faulty : Option ℕ → Change → Change
 unless_faulty none c = c
@@ -58,10 +58,10 @@ abbrev pub no_such : Refused
 no_such = record { why = NotFound; place = 0 }
 
 -- "then 9", with the bytes needed, at 0
-abbrev pub change_answer : Change → ℕ → Laid
+abbrev pub change_answer : Change → ℕ → Result ℕ Refused
 change_answer (changed b) size = laid_at_start 0 size (length b)
-change_answer (faulty place) size = NotLaid (unsound place)
-change_answer lacking size = NotLaid no_such
+change_answer (faulty place) size = Err (unsound place)
+change_answer lacking size = Err no_such
 
 -- "lay into a second room"; "No answer but 0 alters a lent buffer. With 0, bytes outside the result stay"
 abbrev pub change_room : Change → List ℕ → List ℕ
@@ -70,20 +70,20 @@ change_room (faulty place) room = room
 change_room lacking room = room
 
 -- `change_param`
-pub record Changes (d : List ℕ) (cp : ℕ) (new room : List ℕ) (r : Laid) (after : List ℕ) : Type 0 where
+pub record Changes (d : List ℕ) (cp : ℕ) (new room : List ℕ) (r : Result ℕ Refused) (after : List ℕ) : Type 0 where
   pub answers : r ≡ change_answer (change_of d cp new) (length room)
   pub room_is : after ≡ change_room (change_of d cp new) room
 
 -- the bytes that the data after has, of so many new bytes; "a need above 2^64 - 1 is given as that"
-abbrev pub needed_at : List ℕ → ℕ → Spot → Laid
-needed_at d n Nowhere = NotLaid no_such
-needed_at d n (At a e) = Bytes (capped (a + built_size n + (length d - e)))
+abbrev pub needed_at : List ℕ → ℕ → Option Spot → Result ℕ Refused
+needed_at d n None = Err no_such
+needed_at d n (Some (spot a e)) = Ok (capped (a + built_size n + (length d - e)))
 
-abbrev pub needed_unless : Option ℕ → Laid → Laid
+abbrev pub needed_unless : Option ℕ → Result ℕ Refused → Result ℕ Refused
 needed_unless none r = r
-needed_unless (some place) r = NotLaid (unsound place)
+needed_unless (some place) r = Err (unsound place)
 
 -- `change_param_len`: the same answers without 9
-unfoldable pub needed_of : List ℕ → ℕ → ℕ → Laid
+unfoldable pub needed_of : List ℕ → ℕ → ℕ → Result ℕ Refused
 unfolding fault_from first_from built_size
 needed_of d cp n = needed_unless (fault_from d 0 (parameters d)) (needed_at d n (first_from cp 0 (parameters d)))

@@ -1,13 +1,11 @@
 -- Changing one parameter of a request already built, beyond document 02's W-204: a frame in, the frame with that value changed out. `s`
 -- is the frame given, `cp` the code point, `new` the new bytes. A place is a byte of the frame given. Refusals, in this order: those of
 -- reading the one frame, nothing absorbed; 17 for bytes left over; the object's; 17, 11, 18; 9.
-use Rattle.std.specs.Prelude.{ℕ, ◌+◌, ◌-◌, ◌%◌, ◌≡◌, Bool, false, List, [], ◌∷◌, ltb, leb, eqb, length}
+use Rattle.std.specs.Prelude.{ℕ, ◌+◌, ◌-◌, ◌%◌, ◌≡◌, Bool, false, List, [], ◌∷◌, ltb, leb, eqb, length, Result, Err}
 use Rattle.wire.specs.Bytes.{pick, and, be16, part, splice, laid}
 use Rattle.answer.specs.Rooms.{laid_at_start}
 use Rattle.answer.specs.declared.Refusal.TheVariants.{UnreadableSize}
 use Rattle.answer.specs.declared.Refused.{Refused}
-use Rattle.answer.specs.declared.Laid.{Laid}
-use Rattle.answer.specs.declared.Laid.TheVariants.{Refused as NotLaid}
 use Rattle.dss_head.specs.declared.DssType.TheVariants.{Request}
 use Rattle.dss_frame.specs.declared.Rules.TheVariants.{Reader}
 use Rattle.dss_frame.specs.Segments.{Segment, payload_of, end_of}
@@ -82,9 +80,9 @@ request_of s cp new = request_read s cp new (alone_at Reader s 0)
 -- ---- the call
 
 -- 9 with the bytes needed, at 0
-abbrev pub request_answer : Changed → ℕ → Laid
+abbrev pub request_answer : Changed → ℕ → Result ℕ Refused
 request_answer (lays_frame b) size = laid_at_start 0 size (length b)
-request_answer (refuses_it r) size = NotLaid r
+request_answer (refuses_it r) size = Err r
 
 -- nothing is written unless the answer is 0
 abbrev pub request_room : Changed → List ℕ → List ℕ
@@ -92,6 +90,6 @@ request_room (lays_frame b) room = laid room 0 b
 request_room (refuses_it r) room = room
 
 -- `change_request`
-pub record ChangesRequest (s : List ℕ) (cp : ℕ) (new room : List ℕ) (r : Laid) (after : List ℕ) : Type 0 where
+pub record ChangesRequest (s : List ℕ) (cp : ℕ) (new room : List ℕ) (r : Result ℕ Refused) (after : List ℕ) : Type 0 where
   pub answers : r ≡ request_answer (request_of s cp new) (length room)
   pub room_is : after ≡ request_room (request_of s cp new) room

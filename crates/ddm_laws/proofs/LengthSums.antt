@@ -1,4 +1,5 @@
 -- The extended number read byte by byte, refused as soon as it passes 2^64 - 1: it is the number that all the bytes spell.
+use Rattle.std.specs.Prelude.{Result, Ok}
 use Prim.Native.Nat.{ℕ, ◌+◌, ◌*◌, ◌^◌, ◌≤◌, ◌<◌}
 use native.Mathlib.Omega.{arith}
 use mathlib.Core.Path.{◌≡◌, sym, ◌∙◌, ap}
@@ -10,9 +11,10 @@ use Rattle.wire.specs.Bytes.{pick, spelled}
 use Rattle.answer.specs.declared.Refusal.TheVariants.{LengthTooLarge}
 use Rattle.ddm_length.proofs.NumberSums.{spelled_grows}
 use Rattle.ddm_length.specs.Lengths.{refuse, extended_total}
-use Rattle.ddm_length.specs.declared.Marshaled.{Marshaled}
-use Rattle.ddm_length.specs.declared.Marshaled.TheVariants.{Takes}
 use Rattle.wire.proofs.WireLaws.{by, pick_yes, pick_no}
+use Rattle.ddm_length.specs.declared.Marshaled.{Marshaled}
+use Rattle.answer.specs.declared.Refused.{Refused}
+use Rattle.ddm_length.specs.Lengths.{takes}
 
 -- the loop
 unfoldable pub summed : ℕ → List ℕ → Option ℕ
@@ -46,11 +48,11 @@ plus_within header n =
 pub sum_is : (header : ℕ) (bs : List ℕ) → plus header (summed 0 bs) ≡ within (header + spelled 0 bs)
 sum_is header bs = ap (plus header) (summed_is 0 bs (omega arith)) ∙ plus_within header (spelled 0 bs)
 
-abbrev pub by_total : Option ℕ → (ℕ → Marshaled) → Marshaled → Marshaled
+abbrev pub by_total : Option ℕ → (ℕ → Result Marshaled Refused) → Result Marshaled Refused → Result Marshaled Refused
 by_total none f x = x
 by_total (some n) f x = f n
 
-by_within : (n : ℕ) (f : ℕ → Marshaled) (x : Marshaled) → by_total (within n) f x ≡ pick (ltb n (2 ^ 64)) (f n) x
+by_within : (n : ℕ) (f : ℕ → Result Marshaled Refused) (x : Result Marshaled Refused) → by_total (within n) f x ≡ pick (ltb n (2 ^ 64)) (f n) x
 by_within n f x =
     by (ltb n (2 ^ 64)) (λ e. ap (λ o. by_total o f x) (pick_yes (some n) none e) ∙ sym (pick_yes (f n) x e))
     (λ e. ap (λ o. by_total o f x) (pick_no (some n) none e) ∙ sym (pick_no (f n) x e))
@@ -58,7 +60,7 @@ by_within n f x =
 -- what the length field says, by the loop
 pub extended_sum : (place header : ℕ) (bs : List ℕ)
     → extended_total place header (header + spelled 0 bs)
-    ≡ by_total (plus header (summed 0 bs)) (λ total. Takes total header) (refuse place (LengthTooLarge header))
+    ≡ by_total (plus header (summed 0 bs)) (λ total. Ok (takes total header)) (refuse place (LengthTooLarge header))
 extended_sum place header bs =
-    sym (ap (λ o. by_total o (λ total. Takes total header) (refuse place (LengthTooLarge header))) (sum_is header bs)
-    ∙ by_within (header + spelled 0 bs) (λ total. Takes total header) (refuse place (LengthTooLarge header)))
+    sym (ap (λ o. by_total o (λ total. Ok (takes total header)) (refuse place (LengthTooLarge header))) (sum_is header bs)
+    ∙ by_within (header + spelled 0 bs) (λ total. Ok (takes total header)) (refuse place (LengthTooLarge header)))

@@ -1,4 +1,5 @@
 -- The extended number read byte by byte: what the bytes so far spell, and the test that comes before each step.
+use Rattle.std.specs.Prelude.{Some, None}
 use Prim.Native.Nat.{ℕ, suc, ◌+◌, ◌*◌, ◌^◌, ◌≤◌, ◌<◌}
 use native.Mathlib.Omega.{arith}
 use mathlib.Core.Path.{◌≡◌, ◌∙◌, ap}
@@ -11,7 +12,6 @@ use lib.Seq.{take-suc}
 use Rattle.wire.specs.Bytes.{spelled}
 use Rattle.wire.proofs.WireLaws.{picked}
 use Rattle.wire.proofs.Widths.{spelled_append}
-use Rattle.ddm_length.specs.declared.Number.TheVariants.{Is, TooLarge}
 use Rattle.ddm_length.specs.inner.Numbered.{spelled_number}
 
 -- a number only grows with its bytes
@@ -36,11 +36,11 @@ spelled_front bs i =
 
 -- ---- the number that all bytes spell, where it is below 2^64
 
-pub number_is : (bs : List ℕ) (n : ℕ) → spelled_number bs ≡ Is n → spelled 0 bs ≡ n
+pub number_is : (bs : List ℕ) (n : ℕ) → spelled_number bs ≡ Some n → spelled 0 bs ≡ n
 unfolding spelled_number
 number_is bs n e = picked (ltb (spelled 0 bs) (2 ^ 64)) e (λ c r. cc) (λ c r. cc)
 
-pub number_large : (bs : List ℕ) → spelled_number bs ≡ TooLarge → 2 ^ 64 ≤ spelled 0 bs
+pub number_large : (bs : List ℕ) → spelled_number bs ≡ None → 2 ^ 64 ≤ spelled 0 bs
 unfolding spelled_number
 number_large bs e =
     picked (ltb (spelled 0 bs) (2 ^ 64)) e (λ c r. absurd (let z : ◌≡◌ {A = ℕ} 0 1 = cc in omega arith)) (λ c r. ltb-false (spelled 0 bs) (2 ^ 64) c)

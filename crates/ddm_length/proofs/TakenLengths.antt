@@ -1,4 +1,5 @@
 -- What a length field says and what then fits, as relations: their three cases, each way.
+use Rattle.std.specs.Prelude.{Result, Ok, Err}
 use Prim.Native.Nat.{ℕ, ◌+◌, ◌-◌, ◌^◌, ◌≤◌, ◌<◌}
 use native.Mathlib.Omega.{arith}
 use mathlib.Core.Path.{◌≡◌, refl, ap, subst, ◌∙◌}
@@ -10,9 +11,9 @@ use lib.ListN.{length, take, drop}
 use Rattle.answer.specs.declared.Refused.{Refused}
 use Rattle.wire.specs.Bytes.{be16, spelled}
 use Rattle.ddm_length.specs.Lengths.{marshaled, measured, fitting, extended_total, extended}
-use Rattle.ddm_length.specs.declared.Marshaled.{Marshaled}
-use Rattle.ddm_length.specs.declared.Marshaled.TheVariants.{Takes, Refused as Refuses}
 use Rattle.wire.proofs.WireLaws.{picked, pick_yes, pick_no}
+use Rattle.ddm_length.specs.declared.Marshaled.{Marshaled}
+use Rattle.ddm_length.specs.Lengths.{takes}
 
 -- an object at the front of b takes t bytes, of which h are its header
 pub data TakenLength (b : List ℕ) (t h : ℕ) : Type 0 where
@@ -26,10 +27,10 @@ pub data LengthSays (b : List ℕ) (t h : ℕ) : Type 0 where
   says_all : 4 ≤ length b → be16 b 0 ≡ 0x8004 → t ≡ length b → h ≡ 4 → LengthSays b t h
   says_wide : be16 b 0 ≡ 0x8000 + h → 4 < h → h ≤ length b → t ≡ h + spelled 0 (take (h - 4) (drop 4 b)) → t < 2 ^ 64 → LengthSays b t h
 
-never : {P : Type 0} (r : Refused) (t h : ℕ) → Refuses r ≡ Takes t h → P
+never : {P : Type 0} (r : Refused) (t h : ℕ) → Err r ≡ Ok (takes t h) → P
 never r t h e = absurd (let z : ◌≡◌ {A = ℕ} 0 1 = cc in omega arith)
 
-pub says_marshaled : (b : List ℕ) (t h place : ℕ) → LengthSays b t h → marshaled b place ≡ Takes t h
+pub says_marshaled : (b : List ℕ) (t h place : ℕ) → LengthSays b t h → marshaled b place ≡ Ok (takes t h)
 unfolding marshaled
 says_marshaled b t h place (says_inline four et eh hi) =
     pick_no _ _ (le-ltb (length b) 4 four)
@@ -54,10 +55,10 @@ says_marshaled b t h place (says_wide raw lo there et hi) =
     is = omega arith
 
 module _ (b : List ℕ) (t h place : ℕ) where
-  under : (header total : ℕ) → extended_total place header total ≡ Takes t h → (t ≡ total) × (h ≡ header) × (total < 2 ^ 64)
+  under : (header total : ℕ) → extended_total place header total ≡ Ok (takes t h) → (t ≡ total) × (h ≡ header) × (total < 2 ^ 64)
   under header total e = picked (ltb total (2 ^ 64)) e (λ c r. (cc, cc, ltb-true total (2 ^ 64) c)) (λ c r. never _ t h r)
 
-  beyond : (header : ℕ) → extended b place header ≡ Takes t h
+  beyond : (header : ℕ) → extended b place header ≡ Ok (takes t h)
       → (t ≡ header + spelled 0 (take (header - 4) (drop 4 b))) × (h ≡ header) × (h ≤ length b) × (t < 2 ^ 64) × (4 ≤ header)
   beyond header e =
       picked (ltb header 4) e (λ c r. never _ t h r) (λ c r. picked (leb header (length b)) r
@@ -66,7 +67,7 @@ module _ (b : List ℕ) (t h place : ℕ) where
       (f.0, f.1, omega arith, omega arith, ltb-false header 4 c))
       (λ d r. never _ t h r))
 
-pub marshaled_says : (b : List ℕ) (t h place : ℕ) → marshaled b place ≡ Takes t h → LengthSays b t h
+pub marshaled_says : (b : List ℕ) (t h place : ℕ) → marshaled b place ≡ Ok (takes t h) → LengthSays b t h
 unfolding marshaled
 marshaled_says b t h place e =
     picked (ltb (length b) 4) e (λ c r. never _ t h r)
@@ -94,7 +95,7 @@ says_taken b t h (says_inline four et eh hi) lo fits = inline et eh (omega arith
 says_taken b t h (says_all four raw et eh) lo fits = all four raw et eh
 says_taken b t h (says_wide raw lo there et hi) l fits = wide raw lo et hi fits
 
-pub taken_measured : (b : List ℕ) (t h place : ℕ) → TakenLength b t h → measured b place ≡ Takes t h
+pub taken_measured : (b : List ℕ) (t h place : ℕ) → TakenLength b t h → measured b place ≡ Ok (takes t h)
 unfolding measured
 taken_measured b t h place k =
     let w = taken_says b t h k in
@@ -102,18 +103,18 @@ taken_measured b t h place k =
     ∙ pick_no _ _ (le-ltb t h w.1)
     ∙ pick_yes _ _ (le-leb t (length b) w.2)
 
-pub measured_taken : (b : List ℕ) (t h place : ℕ) → measured b place ≡ Takes t h → TakenLength b t h
+pub measured_taken : (b : List ℕ) (t h place : ℕ) → measured b place ≡ Ok (takes t h) → TakenLength b t h
 unfolding measured
 measured_taken b t h place e = go (marshaled b place) refl e
   where
-    same : (x y : ℕ) → Takes x y ≡ Takes t h → LengthSays b x y → y ≤ x → x ≤ length b → TakenLength b t h
+    same : (x y : ℕ) → Ok (takes x y) ≡ Ok (takes t h) → LengthSays b x y → y ≤ x → x ≤ length b → TakenLength b t h
     same x y r w l f = subst2 r (says_taken b x y w l f)
       where
-        subst2 : Takes x y ≡ Takes t h → TakenLength b x y → TakenLength b t h
+        subst2 : Ok (takes x y) ≡ Ok (takes t h) → TakenLength b x y → TakenLength b t h
         subst2 r k = let et : x ≡ t = cc in let eh : y ≡ h = cc in subst (λ (n : ℕ). TakenLength b n h) et (subst (λ (n : ℕ). TakenLength b x n) eh k)
 
-    go : (m : Marshaled) → marshaled b place ≡ m → fitting b place m ≡ Takes t h → TakenLength b t h
-    go (Takes x y) q r =
+    go : (m : Result Marshaled Refused) → marshaled b place ≡ m → fitting b place m ≡ Ok (takes t h) → TakenLength b t h
+    go (Ok (takes x y)) q r =
         picked (ltb x y) r (λ c r. never _ t h r)
         (λ c r. picked (leb x (length b)) r (λ d r. same x y r (marshaled_says b x y place q) (ltb-false x y c) (leb-true x (length b) d)) (λ d r. never _ t h r))
-    go (Refuses r') q r = never r' t h r
+    go (Err r') q r = never r' t h r

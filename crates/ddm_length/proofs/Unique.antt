@@ -1,12 +1,11 @@
 -- Any two outcomes that a contract of this crate allows are equal. Each statement names the contract, and doesn't write it again.
+use Rattle.std.specs.Prelude.{Result}
 use Prim.Native.Nat.{ℕ}
 use mathlib.Core.Path.{◌≡◌, sym, ◌∙◌}
 use mathlib.Core.Bool.{Bool}
 use mathlib.Core.List.{List}
 use contract.Lifetimes.{Lfts}
 use denote.Ref.{Bor, MutBor, at_last}
-use Rattle.answer.specs.declared.Laid.{Laid}
-use Rattle.ddm_length.specs.declared.Marshaled.{Marshaled}
 use Rattle.ddm_length.proofs.length_at.Reads as length_at
 use Rattle.ddm_length.proofs.parse_marshaled_length.Reads as parse_marshaled_length
 use Rattle.ddm_length.proofs.measure_at.Reads as measure_at
@@ -15,22 +14,24 @@ use Rattle.ddm_length.proofs.has_markers.Reads as has_markers
 use Rattle.ddm_length.proofs.unmarked_len.Reads as unmarked_len
 use Rattle.ddm_length.proofs.lay.Reads as lay
 use Rattle.ddm_length.proofs.strip_extended_ddm_continuation_markers.Reads as strip
+use Rattle.ddm_length.specs.declared.Marshaled.{Marshaled}
+use Rattle.answer.specs.declared.Refused.{Refused}
 
 -- ---- lengths
 
-pub length_at_one : (κs : Lfts 1) (b : Bor (List ℕ)) (place : ℕ) (r r' : Marshaled)
+pub length_at_one : (κs : Lfts 1) (b : Bor (List ℕ)) (place : ℕ) (r r' : Result Marshaled Refused)
     → length_at.Post κs (b, (place, tt)) r (b, (place, tt)) → length_at.Post κs (b, (place, tt)) r' (b, (place, tt)) → r ≡ r'
 length_at_one κs b place r r' p q = p ∙ sym q
 
-pub parse_marshaled_length_one : (κs : Lfts 1) (b : Bor (List ℕ)) (r r' : Marshaled)
+pub parse_marshaled_length_one : (κs : Lfts 1) (b : Bor (List ℕ)) (r r' : Result Marshaled Refused)
     → parse_marshaled_length.Post κs (b, tt) r (b, tt) → parse_marshaled_length.Post κs (b, tt) r' (b, tt) → r ≡ r'
 parse_marshaled_length_one κs b r r' p q = p ∙ sym q
 
-pub measure_at_one : (κs : Lfts 1) (b : Bor (List ℕ)) (place : ℕ) (r r' : Marshaled)
+pub measure_at_one : (κs : Lfts 1) (b : Bor (List ℕ)) (place : ℕ) (r r' : Result Marshaled Refused)
     → measure_at.Post κs (b, (place, tt)) r (b, (place, tt)) → measure_at.Post κs (b, (place, tt)) r' (b, (place, tt)) → r ≡ r'
 measure_at_one κs b place r r' p q = p ∙ sym q
 
-pub measure_object_one : (κs : Lfts 1) (b : Bor (List ℕ)) (r r' : Marshaled)
+pub measure_object_one : (κs : Lfts 1) (b : Bor (List ℕ)) (r r' : Result Marshaled Refused)
     → measure_object.Post κs (b, tt) r (b, tt) → measure_object.Post κs (b, tt) r' (b, tt) → r ≡ r'
 measure_object_one κs b r r' p q = p ∙ sym q
 
@@ -50,7 +51,7 @@ pub lay_one : (κs : Lfts 2) (d : Bor (List ℕ)) (room : MutBor (List ℕ)) (l 
     → lay.Post κs (d, (room, tt)) tt (d, (at_last room l, tt)) → lay.Post κs (d, (room, tt)) tt (d, (at_last room l', tt)) → l ≡ l'
 lay_one κs d room l l' p q = p ∙ sym q
 
-pub strip_one : (κs : Lfts 2) (d : Bor (List ℕ)) (work : MutBor (List ℕ)) (r r' : Laid) (l l' : List ℕ)
+pub strip_one : (κs : Lfts 2) (d : Bor (List ℕ)) (work : MutBor (List ℕ)) (r r' : Result ℕ Refused) (l l' : List ℕ)
     → strip.Post κs (d, (work, tt)) r (d, (at_last work l, tt)) → strip.Post κs (d, (work, tt)) r' (d, (at_last work l', tt))
     → (r ≡ r') × (l ≡ l')
 strip_one κs d work r r' l l' p q = (p.answers ∙ sym q.answers, p.room_is ∙ sym q.room_is)

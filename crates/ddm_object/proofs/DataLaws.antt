@@ -1,4 +1,5 @@
 -- Where an object's data lie, from its record.
+use Rattle.std.specs.Prelude.{Ok, Err}
 use Prim.Native.Nat.{ℕ, ◌+◌, ◌-◌, ◌≤◌}
 use native.Mathlib.Omega.{arith}
 use mathlib.Core.Path.{◌≡◌, refl, sym, ◌∙◌, ap, ap₂}
@@ -18,9 +19,8 @@ use Rattle.ddm_object.proofs.DataParsed.{data_parsed}
 use Rattle.ddm_object.proofs.ParamWalks.{Found, found}
 use Rattle.ddm_object.proofs.ObjectRecords.{RecordOf, rec_in, rec_len, out_content, out_length, short_refused}
 use Rattle.ddm_object.specs.declared.DdmObject.{DdmObject}
-use Rattle.ddm_object.specs.declared.ObjectFound.TheVariants.{Object as Gives, Refused as NotGiven}
 
-never : {P : Type 0} {rec : DdmObject} {r : Refused} → Gives rec ≡ NotGiven r → P
+never : {P : Type 0} {rec : DdmObject} {r : Refused} → Ok rec ≡ Err r → P
 never e = absurd (let z : ◌≡◌ {A = ℕ} 0 1 = cc in omega arith)
 
 -- an object that was given, with its record, is within the run, and its data fit the work area
@@ -29,12 +29,12 @@ pub record Given (s : List ℕ) (place size : ℕ) (rec : DdmObject) : Type 0 wh
   pub of : RecordOf (drop place s) place rec
   pub fits : length (work_of s place of.of) ≤ size
 
-pub given_of : (s : List ℕ) (place size : ℕ) (rec : DdmObject) → object_at s place size ≡ Gives rec → Given s place size rec
+pub given_of : (s : List ℕ) (place size : ℕ) (rec : DdmObject) → object_at s place size ≡ Ok rec → Given s place size rec
 unfolding object_at
 given_of s place size rec e =
     picked (leb place (length s)) e (λ c r. go (leb-true place (length s) c) (parsed (drop place s) place) refl r) (λ c r. never (sym r))
   where
-    go : place ≤ length s → (p : Parsed) → parsed (drop place s) place ≡ p → given_parsed s place size p ≡ Gives rec → Given s place size rec
+    go : place ≤ length s → (p : Parsed) → parsed (drop place s) place ≡ p → given_parsed s place size p ≡ Ok rec → Given s place size rec
     go h (object o) q r =
         picked (leb (length (work_of s place o)) size) r
         (λ c k. record { within = h; of = record { of = o; read = q; is = cc }; fits = leb-true (length (work_of s place o)) size c })
@@ -47,13 +47,13 @@ given_run s place size rec h f i =
     record { within = h; of = f; fits = omega (arith, ap length (pick_no f.of.content [] (sym (rec_in (drop place s) place 0 [] rec f) ∙ i))) }
 
 -- of a refused object there are none
-pub refused_data : (s : List ℕ) (place size : ℕ) (x : Refused) → object_at s place size ≡ NotGiven x → data_parsed s place size (parsed (drop place s) place) ≡ []
+pub refused_data : (s : List ℕ) (place size : ℕ) (x : Refused) → object_at s place size ≡ Err x → data_parsed s place size (parsed (drop place s) place) ≡ []
 unfolding object_at
 refused_data s place size x e =
     picked (leb place (length s)) e (λ c r. go (parsed (drop place s) place) r)
     (λ c r. ap (data_parsed s place size) (short_refused (drop place s) place (omega (arith, length-drop place s, leb-false place (length s) c))))
   where
-    go : (p : Parsed) → given_parsed s place size p ≡ NotGiven x → data_parsed s place size p ≡ []
+    go : (p : Parsed) → given_parsed s place size p ≡ Err x → data_parsed s place size p ≡ []
     go (object o) r = picked (leb (length (work_of s place o)) size) r (λ c k. never k) (λ c k. pick_no _ _ c)
     go (refused y) r = refl
 

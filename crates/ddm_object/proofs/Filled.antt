@@ -1,5 +1,6 @@
 -- `object_at` and then `object_data`, over their contracts: the covered call fills the work area, and the thin one hands back the
 -- object's data from the run or from the work area so filled.
+use Rattle.std.specs.Prelude.{Result, Ok, Err}
 use Prim.Native.Nat.{ℕ}
 use mathlib.Core.Path.{◌≡◌, refl, sym, ◌∙◌, ap}
 use mathlib.Core.List.{List, [], ◌∷◌, ◌++◌}
@@ -19,13 +20,11 @@ use Rattle.ddm_object.proofs.DataLaws.{Given, given_of, data_is, refused_data}
 use Rattle.ddm_object.specs.DataParts.{data_part}
 use Rattle.ddm_object.proofs.PartLaws.{part_filled}
 use Rattle.ddm_object.specs.declared.DdmObject.{DdmObject}
-use Rattle.ddm_object.specs.declared.ObjectFound.{ObjectFound}
-use Rattle.ddm_object.specs.declared.ObjectFound.TheVariants.{Object as Gives, Refused as NotGiven}
 use Rattle.ddm_object.proofs.object_at.Reads as object_at_call
 use Rattle.ddm_object.proofs.object_data.Reads as object_data
 
 -- `after` is what `object_at` left in the work area, and `lent` lends just that
-module _ (κs : Lfts 2) (κt : Lfts 1) (run : Bor (List ℕ)) (work : MutBor (List ℕ)) (lent r : Bor (List ℕ)) (at : ℕ) (found : ObjectFound) (after : List ℕ)
+module _ (κs : Lfts 2) (κt : Lfts 1) (run : Bor (List ℕ)) (work : MutBor (List ℕ)) (lent r : Bor (List ℕ)) (at : ℕ) (found : Result DdmObject Refused) (after : List ℕ)
     (p : object_at_call.Post κs (run, (at, (work, tt))) found (run, (at, (at_last work after, tt)))) (same : lent.now ≡ after)
     (q : object_data.Post κt (run, (at, (lent, tt))) r (run, (at, (lent, tt)))) where
   -- what the two come to
@@ -35,13 +34,13 @@ module _ (κs : Lfts 2) (κt : Lfts 1) (run : Bor (List ℕ)) (work : MutBor (Li
       ∙ part_filled run.now at work.now (parsed (drop at run.now) at)
 
   -- an object that was given: exactly its data, wherever they lie
-  pub given_data : (rec : DdmObject) → found ≡ Gives rec → (o : Object) × (parsed (drop at run.now) at ≡ object o) × (r.now ≡ o.content)
+  pub given_data : (rec : DdmObject) → found ≡ Ok rec → (o : Object) × (parsed (drop at run.now) at ≡ object o) × (r.now ≡ o.content)
   given_data rec e =
       let g : Given run.now at (length work.now) rec = given_of run.now at (length work.now) rec (sym p.answers ∙ e) in
       (g.of.of, g.of.read, both ∙ data_is run.now at work.now rec g)
 
   -- one that was refused, also for want of room: nothing
-  pub refused_none : (x : Refused) → found ≡ NotGiven x → r.now ≡ []
+  pub refused_none : (x : Refused) → found ≡ Err x → r.now ≡ []
   refused_none x e = both ∙ refused_data run.now at (length work.now) x (sym p.answers ∙ e)
 
 -- ---- examples, at any places in memory
@@ -87,5 +86,5 @@ module _ (κs : Lfts 2) (κt : Lfts 1) (a b : ℕ) (γ : GName) where
   pub short_example : (r : Bor (List ℕ)) → object_data.Post κt (slice a 0 long, (0, (few, tt))) r (slice a 0 long, (0, (few, tt))) → r.now ≡ []
   unfolding object_at parsed measured marshaled unmarked kept_fuel laid splice
   short_example r q =
-      refused_none κs κt (slice a 0 long) (room b 0 (replicate 32757 9)) few r 0 (NotGiven (no_room 0 32758 0)) (replicate 32757 9)
+      refused_none κs κt (slice a 0 long) (room b 0 (replicate 32757 9)) few r 0 (Err (no_room 0 32758 0)) (replicate 32757 9)
       (record { answers = refl; work_is = refl }) refl q _ refl

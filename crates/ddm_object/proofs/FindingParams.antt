@@ -1,4 +1,5 @@
 -- One step of the walk over parameters, as a walker makes it; and the loop that looks for the first with a code point.
+use Rattle.std.specs.Prelude.{Ok, Err, Some, None}
 use Prim.Native.Nat.{ℕ, ◌+◌, ◌≤◌, ◌<◌}
 use native.Mathlib.Omega.{arith}
 use mathlib.Core.Path.{◌≡◌, refl, sym, ◌∙◌, ap}
@@ -17,8 +18,6 @@ use Rattle.ddm_object.proofs.ParamWalks.{found, sized, parameters_stop, paramete
 use Rattle.ddm_object.proofs.ObjectRecords.{RecordOf}
 use Rattle.ddm_object.specs.inner.RecordsGiven.{given_in, work_given}
 use Rattle.ddm_object.specs.declared.DdmObject.{DdmObject}
-use Rattle.ddm_object.specs.declared.PlaceFound.TheVariants.{At, Nothing}
-use Rattle.ddm_object.specs.declared.Stepped.TheVariants.{Param, Refused as NoStep}
 use Rattle.ddm_object.specs.inner.Walked.{PlaceIs}
 
 -- ---- one step
@@ -31,16 +30,16 @@ within s at x e h = pick_yes _ _ (le-leb at (length s) h) ∙ ap (step_parsed s 
 inside : (s : List ℕ) (at : ℕ) (o : Object) → parsed (drop at s) at ≡ object o → at ≤ length s
 inside s at o e = omega (arith, sized (found (drop at s) at o e), length-drop at s)
 
-pub step_is : (s : List ℕ) (at : ℕ) (o : Object) → parsed (drop at s) at ≡ object o → param_step_at s at ≡ Param (object_record s at o) (at + o.consumed)
+pub step_is : (s : List ℕ) (at : ℕ) (o : Object) → parsed (drop at s) at ≡ object o → param_step_at s at ≡ Ok (object_record s at o, at + o.consumed)
 step_is s at o e = within s at (object o) e (inside s at o e)
 
-pub step_object : (s : List ℕ) (at : ℕ) (rec : DdmObject) → RecordOf (drop at s) at rec → param_step_at s at ≡ Param rec (at + rec.consumed)
-step_object s at rec f = step_is s at f.of f.read ∙ ap (λ (x : DdmObject). Param x (at + x.consumed)) f.is
+pub step_object : (s : List ℕ) (at : ℕ) (rec : DdmObject) → RecordOf (drop at s) at rec → param_step_at s at ≡ Ok (rec, at + rec.consumed)
+step_object s at rec f = step_is s at f.of f.read ∙ ap (λ (x : DdmObject). Ok (x, at + x.consumed)) f.is
 
-pub step_end : (s : List ℕ) (at : ℕ) (r : Refused) → at ≤ length s → parsed (drop at s) at ≡ refused r → param_step_at s at ≡ NoStep (end_at at)
+pub step_end : (s : List ℕ) (at : ℕ) (r : Refused) → at ≤ length s → parsed (drop at s) at ≡ refused r → param_step_at s at ≡ Err (end_at at)
 step_end s at r h e = within s at (refused r) e h
 
-pub step_beyond : (s : List ℕ) (at : ℕ) → length s < at → param_step_at s at ≡ NoStep (out_of_bounds at (length s))
+pub step_beyond : (s : List ℕ) (at : ℕ) → length s < at → param_step_at s at ≡ Err (out_of_bounds at (length s))
 unfolding param_step_at
 step_beyond s at h = pick_no _ _ (lt-leb at (length s) h)
 
@@ -53,14 +52,14 @@ pub record StepOf (s : List ℕ) (at : ℕ) (rec : DdmObject) (next : ℕ) : Typ
   pub on : at + 4 ≤ next
   pub within : next ≤ length s
 
-never : {P : Type 0} {rec : DdmObject} {next : ℕ} {r : Refused} → Param rec next ≡ NoStep r → P
+never : {P : Type 0} {rec : DdmObject} {next : ℕ} {r : Refused} → Ok (rec, next) ≡ Err r → P
 never e = absurd (let z : ◌≡◌ {A = ℕ} 0 1 = cc in omega arith)
 
-pub step_of : (s : List ℕ) (at : ℕ) (rec : DdmObject) (next : ℕ) → param_step_at s at ≡ Param rec next → StepOf s at rec next
+pub step_of : (s : List ℕ) (at : ℕ) (rec : DdmObject) (next : ℕ) → param_step_at s at ≡ Ok (rec, next) → StepOf s at rec next
 unfolding param_step_at
 step_of s at rec next e = picked (leb at (length s)) e (λ c r. go (parsed (drop at s) at) refl r) (λ c r. never (sym r))
   where
-    go : (p : Parsed) → parsed (drop at s) at ≡ p → step_parsed s at p ≡ Param rec next → StepOf s at rec next
+    go : (p : Parsed) → parsed (drop at s) at ≡ p → step_parsed s at p ≡ Ok (rec, next) → StepOf s at rec next
     go (object o) q r =
         let n : next ≡ at + o.consumed = cc in
         let z : (4 ≤ o.consumed) × (o.consumed ≤ length (drop at s)) = sized (found (drop at s) at o q) in
@@ -68,7 +67,7 @@ step_of s at rec next e = picked (leb at (length s)) e (λ c r. go (parsed (drop
     go (refused x) q r = never (sym r)
 
 -- where there is none, within the data, nothing can be read
-pub no_step : (s : List ℕ) (at : ℕ) (r : Refused) → at ≤ length s → param_step_at s at ≡ NoStep r → (x : Refused) × (parsed (drop at s) at ≡ refused x)
+pub no_step : (s : List ℕ) (at : ℕ) (r : Refused) → at ≤ length s → param_step_at s at ≡ Err r → (x : Refused) × (parsed (drop at s) at ≡ refused x)
 no_step s at r h e = go (parsed (drop at s) at) refl
   where
     go : (p : Parsed) → parsed (drop at s) at ≡ p → (x : Refused) × (parsed (drop at s) at ≡ refused x)
@@ -93,7 +92,7 @@ pub record Looking (s : List ℕ) (cp at : ℕ) : Type 0 where
 pub looking_start : (s : List ℕ) (cp : ℕ) → Looking s cp 0
 looking_start s cp = record { within = omega arith; finds = λ size. refl; works = λ work. refl }
 
-pub looking_end : (s : List ℕ) (cp at : ℕ) (r : Refused) → Looking s cp at → parsed (drop at s) at ≡ refused r → PlaceIs s cp Nothing
+pub looking_end : (s : List ℕ) (cp at : ℕ) (r : Refused) → Looking s cp at → parsed (drop at s) at ≡ refused r → PlaceIs s cp None
 unfolding find_from work_found
 looking_end s cp at r k e = (
   λ size. k.finds size ∙ ap (find_from s at cp size) (parameters_stop (drop at s) at r e),
@@ -117,7 +116,7 @@ module _ (s : List ℕ) (cp at : ℕ) (k : Looking s cp at) (rec : DdmObject) (f
             ∙ ap (λ (m : ℕ). work_found s (at + m) cp work (parameters (drop (at + m) s))) (sym c);
       }
 
-  pub looking_found : rec.code_point ≡ cp → PlaceIs s cp (At at)
+  pub looking_found : rec.code_point ≡ cp → PlaceIs s cp (Some at)
   unfolding find_from work_found
   looking_found e =
       let t : eqb f.of.code_point cp ≡ true = eq-eqb f.of.code_point cp (sym code_is ∙ e) in (

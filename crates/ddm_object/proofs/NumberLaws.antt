@@ -1,4 +1,5 @@
 -- Four bytes as a number, and as two's complement.
+use Rattle.std.specs.Prelude.{Ok, Err}
 use Prim.Native.Nat.{ℕ, suc, ◌+◌, ◌*◌, ◌-◌, ◌^◌, ◌≤◌, ◌<◌}
 use native.Mathlib.Omega.{arith}
 use mathlib.Core.Path.{◌≡◌, sym, ◌∙◌, ap}
@@ -14,8 +15,6 @@ use Rattle.wire.specs.Bytes.{be16, spelled}
 use Rattle.wire.proofs.WireLaws.{picked, pick_yes, pick_no}
 use Rattle.answer.specs.declared.Refused.{Refused}
 use Rattle.ddm_object.specs.ObjectCalls.{u32_of, signed32, i32_of}
-use Rattle.ddm_object.specs.declared.U32Found.TheVariants.{Number as U32, Refused as NoU32}
-use Rattle.ddm_object.specs.declared.I32Found.TheVariants.{Number as I32, Refused as NoI32}
 
 pub four_spelled : (d : List ℕ) → 4 ≤ length d → spelled 0 (take 4 d) ≡ be16 d 0 * 65536 + be16 d 2
 unfolding spelled
@@ -26,17 +25,17 @@ four_spelled (a ∷ b ∷ c ∷ []) h = absurd (omega arith)
 four_spelled (a ∷ b ∷ c ∷ e ∷ d) h = omega arith
 
 -- the signed number of the unsigned one
-pub i32_number : (d : List ℕ) (n : ℕ) → u32_of d ≡ U32 n → i32_of d ≡ I32 (signed32 n)
+pub i32_number : (d : List ℕ) (n : ℕ) → u32_of d ≡ Ok n → i32_of d ≡ Ok (signed32 n)
 unfolding u32_of i32_of
 i32_number d n e =
     picked (leb 4 (length d)) e
-    (λ c r. let s : spelled 0 (take 4 d) ≡ n = cc in pick_yes _ _ c ∙ ap (λ (k : ℕ). I32 (signed32 k)) s)
+    (λ c r. let s : spelled 0 (take 4 d) ≡ n = cc in pick_yes _ _ c ∙ ap (λ (k : ℕ). Ok (signed32 k)) s)
     (λ c r. absurd (let z : ◌≡◌ {A = ℕ} 0 1 = cc in omega arith))
 
-pub i32_none : (d : List ℕ) (x : Refused) → u32_of d ≡ NoU32 x → i32_of d ≡ NoI32 x
+pub i32_none : (d : List ℕ) (x : Refused) → u32_of d ≡ Err x → i32_of d ≡ Err x
 unfolding u32_of i32_of
 i32_none d x e =
-    picked (leb 4 (length d)) e (λ c r. absurd (let z : ◌≡◌ {A = ℕ} 0 1 = cc in omega arith)) (λ c r. pick_no _ _ c ∙ ap NoI32 (cc))
+    picked (leb 4 (length d)) e (λ c r. absurd (let z : ◌≡◌ {A = ℕ} 0 1 = cc in omega arith)) (λ c r. pick_no _ _ c ∙ ap Err (cc))
 
 -- ---- two's complement, as the machine makes it
 

@@ -1,5 +1,6 @@
 -- What is found of one object by measuring alone: its record, and how much it lays into the work area. `b` is all that stands
 -- from its first byte on, and `place` where that is.
+use Rattle.std.specs.Prelude.{Result, Ok, Err}
 use Prim.Native.Nat.{ℕ, ◌+◌, ◌-◌, ◌≤◌, ◌<◌}
 use native.Mathlib.Omega.{arith}
 use mathlib.Core.Path.{◌≡◌, refl, sym, ◌∙◌, ap}
@@ -19,15 +20,13 @@ use Rattle.ddm_length.specs.Lengths.{marshaled, fitting, measured}
 use Rattle.ddm_length.specs.Markers.{has_markers, marker_first, unmarked}
 use Rattle.ddm_length.proofs.TakenLengths.{TakenLength, inline, all, wide, measured_taken}
 use Rattle.ddm_length.proofs.Fronts.{in_order}
-use Rattle.ddm_length.specs.declared.Marshaled.{Marshaled}
-use Rattle.ddm_length.specs.declared.Marshaled.TheVariants.{Takes, Refused as Refuses}
 use Rattle.ddm_object.specs.Objects.{Object, Parsed, object, refused, content_of, object_of, parsed}
 use Rattle.ddm_object.specs.ObjectCalls.{lies_in_work, given_parsed, object_at, work_parsed, ObjectAt}
 use Rattle.ddm_object.proofs.ParamWalks.{Found, found, sized}
 use Rattle.ddm_object.specs.declared.DdmObject.{DdmObject}
-use Rattle.ddm_object.specs.declared.ObjectFound.{ObjectFound}
-use Rattle.ddm_object.specs.declared.ObjectFound.TheVariants.{Object as Gives, Refused as NotGiven}
 use Rattle.ddm_object.specs.inner.RecordsGiven.{work_in, record_in, record_parsed, record_found, given_in, work_given, GivesIn}
+use Rattle.ddm_length.specs.declared.Marshaled.{Marshaled}
+use Rattle.ddm_length.specs.Lengths.{takes}
 
 -- ---- laws
 
@@ -69,18 +68,18 @@ out_length b t h e k =
 
 -- the record, by what the length says
 module _ (b : List ℕ) (place : ℕ) where
-  pub record_refused : (r : Refused) → measured b place ≡ Refuses r → record_found b place ≡ NotGiven r
+  pub record_refused : (r : Refused) → measured b place ≡ Err r → record_found b place ≡ Err r
   unfolding record_found parsed
   record_refused r e = rw e
 
-  module _ (t h : ℕ) (e : measured b place ≡ Takes t h) where
+  module _ (t h : ℕ) (e : measured b place ≡ Ok (takes t h)) where
     pub record_work : lies_in_work b ≡ true
-        → record_found b place ≡ Gives (record { code_point = be16 b 2; in_work = true; data_at = 0; data_len = length (unmarked (drop 4 b)); consumed = t })
+        → record_found b place ≡ Ok (record { code_point = be16 b 2; in_work = true; data_at = 0; data_len = length (unmarked (drop 4 b)); consumed = t })
     unfolding record_found parsed
     record_work i = rw (e, in_content b i t h, i)
 
     pub record_plain : lies_in_work b ≡ false
-        → record_found b place ≡ Gives (record { code_point = be16 b 2; in_work = false; data_at = place + h; data_len = t - h; consumed = t })
+        → record_found b place ≡ Ok (record { code_point = be16 b 2; in_work = false; data_at = place + h; data_len = t - h; consumed = t })
     unfolding record_found parsed
     record_plain i =
         let k : TakenLength b t h = measured_taken b t h place e in
@@ -94,19 +93,19 @@ pub record RecordOf (b : List ℕ) (place : ℕ) (rec : DdmObject) : Type 0 wher
   pub read : parsed b place ≡ object of
   pub is : record_in b place of ≡ rec
 
-pub record_of : (b : List ℕ) (place : ℕ) (rec : DdmObject) → record_found b place ≡ Gives rec → RecordOf b place rec
+pub record_of : (b : List ℕ) (place : ℕ) (rec : DdmObject) → record_found b place ≡ Ok rec → RecordOf b place rec
 unfolding record_found
 record_of b place rec e = go (parsed b place) refl e
   where
-    go : (p : Parsed) → parsed b place ≡ p → record_parsed b place p ≡ Gives rec → RecordOf b place rec
+    go : (p : Parsed) → parsed b place ≡ p → record_parsed b place p ≡ Ok rec → RecordOf b place rec
     go (object o) q r = record { of = o; read = q; is = cc }
     go (refused x) q r = absurd (let z : ◌≡◌ {A = ℕ} 0 1 = cc in omega arith)
 
-pub refused_of : (b : List ℕ) (place : ℕ) (r : Refused) → record_found b place ≡ NotGiven r → parsed b place ≡ refused r
+pub refused_of : (b : List ℕ) (place : ℕ) (r : Refused) → record_found b place ≡ Err r → parsed b place ≡ refused r
 unfolding record_found
 refused_of b place r e = go (parsed b place) refl e
   where
-    go : (p : Parsed) → parsed b place ≡ p → record_parsed b place p ≡ NotGiven r → parsed b place ≡ refused r
+    go : (p : Parsed) → parsed b place ≡ p → record_parsed b place p ≡ Err r → parsed b place ≡ refused r
     go (object o) q k = absurd (let z : ◌≡◌ {A = ℕ} 0 1 = cc in omega arith)
     go (refused x) q k = q ∙ ap refused (cc)
 
@@ -123,7 +122,7 @@ record_next s at rec h f =
 
 -- ---- what the call answers, by the record
 
-pub gives_refused : (b : List ℕ) (place position : ℕ) (work : List ℕ) (r : Refused) → parsed b place ≡ refused r → GivesIn b place position work (NotGiven r) work
+pub gives_refused : (b : List ℕ) (place position : ℕ) (work : List ℕ) (r : Refused) → parsed b place ≡ refused r → GivesIn b place position work (Err r) work
 gives_refused b place position work r e = record { answers = rw e; work_is = rw e }
 
 module _ (b : List ℕ) (place position : ℕ) (work : List ℕ) (rec : DdmObject) (f : RecordOf b place rec) where
@@ -134,12 +133,12 @@ module _ (b : List ℕ) (place position : ℕ) (work : List ℕ) (rec : DdmObjec
   pub rec_len : rec.data_len ≡ length f.of.content
   rec_len = sym (ap (λ (o : DdmObject). o.data_len) f.is)
 
-  pub gives_plain : rec.in_work ≡ false → GivesIn b place position work (Gives rec) work
+  pub gives_plain : rec.in_work ≡ false → GivesIn b place position work (Ok rec) work
   gives_plain i =
       let j : lies_in_work b ≡ false = sym rec_in ∙ i in
       record {
-        answers = sym (ap (given_in b place position (length work)) f.read ∙ ap (λ (w : List ℕ). pick (leb (length w) (length work)) (Gives (record_in b place f.of)) (NotGiven (no_room position (length w) 0))) (pick_no _ _ j)
-            ∙ pick_yes _ _ (le-leb 0 (length work) (omega arith)) ∙ ap Gives f.is);
+        answers = sym (ap (given_in b place position (length work)) f.read ∙ ap (λ (w : List ℕ). pick (leb (length w) (length work)) (Ok (record_in b place f.of)) (Err (no_room position (length w) 0))) (pick_no _ _ j)
+            ∙ pick_yes _ _ (le-leb 0 (length work) (omega arith)) ∙ ap Ok f.is);
         work_is = sym (ap (work_given b work) f.read ∙ ap (laid work 0) (pick_no _ _ j) ∙ laid_fits work 0 [] (omega arith) ∙ splice_none work 0);
       }
 
@@ -152,23 +151,23 @@ module _ (b : List ℕ) (place position : ℕ) (work : List ℕ) (rec : DdmObjec
 
     -- what is answered, by the bytes for the work area
     answered : given_in b place position (length work) (parsed b place)
-        ≡ pick (leb (length (unmarked (drop 4 b))) (length work)) (Gives rec) (NotGiven (no_room position (length (unmarked (drop 4 b))) 0))
+        ≡ pick (leb (length (unmarked (drop 4 b))) (length work)) (Ok rec) (Err (no_room position (length (unmarked (drop 4 b))) 0))
     answered =
         ap (given_in b place position (length work)) f.read
-        ∙ ap (λ (w : List ℕ). pick (leb (length w) (length work)) (Gives (record_in b place f.of)) (NotGiven (no_room position (length w) 0))) work_is
-        ∙ ap (λ (x : DdmObject). pick (leb (length (unmarked (drop 4 b))) (length work)) (Gives x) (NotGiven (no_room position (length (unmarked (drop 4 b))) 0))) f.is
+        ∙ ap (λ (w : List ℕ). pick (leb (length w) (length work)) (Ok (record_in b place f.of)) (Err (no_room position (length w) 0))) work_is
+        ∙ ap (λ (x : DdmObject). pick (leb (length (unmarked (drop 4 b))) (length work)) (Ok x) (Err (no_room position (length (unmarked (drop 4 b))) 0))) f.is
 
     left : work_given b work (parsed b place) ≡ laid work 0 (unmarked (drop 4 b))
     left = ap (work_given b work) f.read ∙ ap (laid work 0) work_is
 
-    pub gives_work : (after : List ℕ) → length (unmarked (drop 4 b)) ≤ length work → after ≡ laid work 0 (unmarked (drop 4 b)) → GivesIn b place position work (Gives rec) after
+    pub gives_work : (after : List ℕ) → length (unmarked (drop 4 b)) ≤ length work → after ≡ laid work 0 (unmarked (drop 4 b)) → GivesIn b place position work (Ok rec) after
     gives_work after h a =
         record {
           answers = sym (answered ∙ pick_yes _ _ (le-leb (length (unmarked (drop 4 b))) (length work) h));
           work_is = a ∙ sym left;
         }
 
-    pub gives_short : (n : ℕ) → length (unmarked (drop 4 b)) ≡ n → length work < n → GivesIn b place position work (NotGiven (no_room position n 0)) work
+    pub gives_short : (n : ℕ) → length (unmarked (drop 4 b)) ≡ n → length work < n → GivesIn b place position work (Err (no_room position n 0)) work
     gives_short n l h =
         record {
           answers = sym (answered ∙ pick_no _ _ (lt-leb (length (unmarked (drop 4 b))) (length work) (omega arith)) ∙ rw l refl);
@@ -180,7 +179,7 @@ module _ (b : List ℕ) (place position : ℕ) (work : List ℕ) (rec : DdmObjec
 -- fewer than four bytes are no object
 pub short_refused : (b : List ℕ) (place : ℕ) → length b < 4 → parsed b place ≡ refused (record { why = BufferTooShort 4 (length b); place = place })
 unfolding parsed measured marshaled
-short_refused b place h = ap (λ (m : Marshaled). object_of b (fitting b place m)) (pick_yes _ _ (lt-ltb (length b) 4 h))
+short_refused b place h = ap (λ (m : Result Marshaled Refused). object_of b (fitting b place m)) (pick_yes _ _ (lt-ltb (length b) 4 h))
 
 module _ (s : List ℕ) (place : ℕ) (work : List ℕ) where
   given_same : (size : ℕ) (p : Parsed) → given_in (drop place s) place place size p ≡ given_parsed s place size p
@@ -191,7 +190,7 @@ module _ (s : List ℕ) (place : ℕ) (work : List ℕ) where
   left_same (object o) = refl
   left_same (refused r) = refl
 
-  pub at_place : (r : ObjectFound) (after : List ℕ) → place ≤ length s → GivesIn (drop place s) place place work r after → ObjectAt s place work r after
+  pub at_place : (r : Result DdmObject Refused) (after : List ℕ) → place ≤ length s → GivesIn (drop place s) place place work r after → ObjectAt s place work r after
   unfolding object_at
   at_place r after h g =
       record {
@@ -199,7 +198,7 @@ module _ (s : List ℕ) (place : ℕ) (work : List ℕ) where
         work_is = g.work_is ∙ left_same (parsed (drop place s) place);
       }
 
-  pub beyond_place : length s < place → ObjectAt s place work (NotGiven (out_of_bounds place (length s))) work
+  pub beyond_place : length s < place → ObjectAt s place work (Err (out_of_bounds place (length s))) work
   unfolding object_at
   beyond_place h =
       record {

@@ -1,4 +1,5 @@
 -- The walk over parameters with its fuel and its places gone.
+use Rattle.std.specs.Prelude.{Result, Ok, Err}
 use Prim.Native.Nat.{ℕ, zero, suc, ◌+◌, ◌-◌, ◌≤◌, ◌<◌}
 use native.Mathlib.Omega.{arith}
 use mathlib.Core.Path.{◌≡◌, refl, sym, ◌∙◌, ap, subst}
@@ -8,14 +9,14 @@ use lib.Seq.{length-take-le}
 use Rattle.answer.specs.declared.Refused.{Refused}
 use Rattle.wire.specs.Bytes.{be16}
 use Rattle.ddm_length.specs.Lengths.{measured}
-use Rattle.ddm_length.specs.declared.Marshaled.{Marshaled}
-use Rattle.ddm_length.specs.declared.Marshaled.TheVariants.{Takes, Refused as NoLength}
 use Rattle.ddm_object.specs.Objects.{Object, Parsed, object, refused, object_of, content_of, up_to, parsed, parameters_fuel, parameters}
 use Rattle.ddm_length.proofs.TakenLengths.{TakenLength, inline, all, wide, measured_taken}
 use Rattle.wire.proofs.WireLaws.{part_front, be16_front}
 use Rattle.ddm_length.proofs.Fronts.{in_order, shrink}
 use Rattle.ddm_object.proofs.ObjectReads.{made, taken_parsed, content_plain, Reads, past, own_reads}
 use Rattle.ddm_object.specs.inner.Walked.{Refuses}
+use Rattle.ddm_length.specs.declared.Marshaled.{Marshaled}
+use Rattle.ddm_length.specs.Lengths.{takes}
 
 never : {P : Type 0} {r : Refused} {o : Object} → refused r ≡ object o → P
 never e = absurd (let z : ◌≡◌ {A = ℕ} 0 1 = cc in omega arith)
@@ -30,11 +31,11 @@ pub found : (b : List ℕ) (place : ℕ) (o : Object) → parsed b place ≡ obj
 unfolding parsed
 found b place o e = go (measured b place) refl e
   where
-    go : (m : Marshaled) → measured b place ≡ m → object_of b m ≡ object o → Found b o
-    go (Takes t h) q r =
+    go : (m : Result Marshaled Refused) → measured b place ≡ m → object_of b m ≡ object o → Found b o
+    go (Ok (takes t h)) q r =
         let same : made (be16 b 2) (content_of b t h) t ≡ o = cc in
         subst (Found b) same (record { header = h; taken = measured_taken b t h place q; is = refl })
-    go (NoLength x) q r = never r
+    go (Err x) q r = never r
 
 module _ {b : List ℕ} {o : Object} (f : Found b o) where
   -- the place does not matter

@@ -1,15 +1,11 @@
 -- Any two outcomes that a contract of this crate allows are equal. Each statement names the contract, and doesn't write it again.
+use Rattle.std.specs.Prelude.{Result, ℤ}
 use Prim.Native.Nat.{ℕ}
 use mathlib.Core.Path.{◌≡◌, sym, ◌∙◌}
 use mathlib.Core.List.{List}
 use contract.Lifetimes.{Lfts}
 use denote.Ref.{Bor, MutBor, at_last}
 use Rattle.ddm_object.specs.declared.DdmObject.{DdmObject}
-use Rattle.ddm_object.specs.declared.ObjectFound.{ObjectFound}
-use Rattle.ddm_object.specs.declared.U16Found.{U16Found}
-use Rattle.ddm_object.specs.declared.U32Found.{U32Found}
-use Rattle.ddm_object.specs.declared.I32Found.{I32Found}
-use Rattle.ddm_object.specs.declared.Stepped.{Stepped}
 use Rattle.ddm_object.proofs.object_at.Reads as object_at
 use Rattle.ddm_object.proofs.DdmObject.parse.Reads as parse
 use Rattle.ddm_object.proofs.DdmObject.total_length.Reads as total_length
@@ -19,10 +15,11 @@ use Rattle.ddm_object.proofs.as_u16.Reads as as_u16
 use Rattle.ddm_object.proofs.as_u32.Reads as as_u32
 use Rattle.ddm_object.proofs.as_i32.Reads as as_i32
 use Rattle.ddm_object.proofs.step_at.Reads as step_at
+use Rattle.answer.specs.declared.Refused.{Refused}
 
 -- ---- one object
 
-module _ (run : Bor (List ℕ)) (work : MutBor (List ℕ)) (at : ℕ) (r r' : ObjectFound) (l l' : List ℕ) where
+module _ (run : Bor (List ℕ)) (work : MutBor (List ℕ)) (at : ℕ) (r r' : Result DdmObject Refused) (l l' : List ℕ) where
   pub object_at_one : (κs : Lfts 2) → object_at.Post κs (run, (at, (work, tt))) r (run, (at, (at_last work l, tt)))
       → object_at.Post κs (run, (at, (work, tt))) r' (run, (at, (at_last work l', tt))) → (r ≡ r') × (l ≡ l')
   object_at_one κs p q = (p.answers ∙ sym q.answers, p.work_is ∙ sym q.work_is)
@@ -46,16 +43,16 @@ total_length_one κs o r r' p q = p ∙ sym q
 
 -- ---- numbers
 
-pub as_u16_one : (κs : Lfts 1) (d : Bor (List ℕ)) (r r' : U16Found) → as_u16.Post κs (d, tt) r (d, tt) → as_u16.Post κs (d, tt) r' (d, tt) → r ≡ r'
+pub as_u16_one : (κs : Lfts 1) (d : Bor (List ℕ)) (r r' : Result ℕ Refused) → as_u16.Post κs (d, tt) r (d, tt) → as_u16.Post κs (d, tt) r' (d, tt) → r ≡ r'
 as_u16_one κs d r r' p q = p ∙ sym q
 
-pub as_u32_one : (κs : Lfts 1) (d : Bor (List ℕ)) (r r' : U32Found) → as_u32.Post κs (d, tt) r (d, tt) → as_u32.Post κs (d, tt) r' (d, tt) → r ≡ r'
+pub as_u32_one : (κs : Lfts 1) (d : Bor (List ℕ)) (r r' : Result ℕ Refused) → as_u32.Post κs (d, tt) r (d, tt) → as_u32.Post κs (d, tt) r' (d, tt) → r ≡ r'
 as_u32_one κs d r r' p q = p ∙ sym q
 
-pub as_i32_one : (κs : Lfts 1) (d : Bor (List ℕ)) (r r' : I32Found) → as_i32.Post κs (d, tt) r (d, tt) → as_i32.Post κs (d, tt) r' (d, tt) → r ≡ r'
+pub as_i32_one : (κs : Lfts 1) (d : Bor (List ℕ)) (r r' : Result ℤ Refused) → as_i32.Post κs (d, tt) r (d, tt) → as_i32.Post κs (d, tt) r' (d, tt) → r ≡ r'
 as_i32_one κs d r r' p q = p ∙ sym q
 
 -- ---- the walk over parameters
 
-pub step_at_one : (κs : Lfts 1) (d : Bor (List ℕ)) (at : ℕ) (r r' : Stepped) → step_at.Post κs (d, (at, tt)) r (d, (at, tt)) → step_at.Post κs (d, (at, tt)) r' (d, (at, tt)) → r ≡ r'
+pub step_at_one : (κs : Lfts 1) (d : Bor (List ℕ)) (at : ℕ) (r r' : Result (DdmObject × ℕ) Refused) → step_at.Post κs (d, (at, tt)) r (d, (at, tt)) → step_at.Post κs (d, (at, tt)) r' (d, (at, tt)) → r ≡ r'
 step_at_one κs d at r r' p q = p ∙ sym q

@@ -1,4 +1,5 @@
 -- The loop that stores records in a row: those stored so far, and what still stands behind them.
+use Rattle.std.specs.Prelude.{Result, Ok, Err}
 use Prim.Native.Nat.{ℕ, zero, suc, ◌+◌, ◌<◌, ◌≤◌}
 use native.Mathlib.Omega.{arith}
 use mathlib.Core.Path.{◌≡◌, refl, sym, ◌∙◌, ap}
@@ -7,17 +8,15 @@ use lib.ListN.{length, set, drop, length-append}
 use Rattle.answer.specs.declared.Refused.{Refused}
 use Rattle.ddm_object.specs.ObjectCalls.{param_step_at}
 use Rattle.ddm_object.specs.declared.DdmObject.{DdmObject}
-use Rattle.ddm_object.specs.declared.Stepped.{Stepped}
-use Rattle.ddm_object.specs.declared.Stepped.TheVariants.{Param, Refused as NoStep}
 use Rattle.ddm_rows.specs.inner.RowsFilled.{one_more_object, recs_from, RowFilled}
 
 set_at : (d : List DdmObject) (z r : DdmObject) (l : List DdmObject) → set (d ++ (z ∷ l)) (length d) r ≡ (d ++ (r ∷ [])) ++ l
 set_at [] z r l = refl
 set_at (x ∷ d) z r l = ap (λ (k : List DdmObject). x ∷ k) (set_at d z r l)
 
-one_more : (n : ℕ) (s : List ℕ) (at : ℕ) (f : Stepped) → param_step_at s at ≡ f → recs_from (suc n) s at ≡ one_more_object f (λ r next. r ∷ recs_from n s next)
+one_more : (n : ℕ) (s : List ℕ) (at : ℕ) (f : Result (DdmObject × ℕ) Refused) → param_step_at s at ≡ f → recs_from (suc n) s at ≡ one_more_object f (λ r next. r ∷ recs_from n s next)
 unfolding recs_from
-one_more n s at f e = ap (λ (g : Stepped). one_more_object g (λ r next. r ∷ recs_from n s next)) e
+one_more n s at f e = ap (λ (g : Result (DdmObject × ℕ) Refused). one_more_object g (λ r next. r ∷ recs_from n s next)) e
 
 none : (s : List ℕ) (at : ℕ) → recs_from 0 s at ≡ []
 unfolding recs_from
@@ -51,14 +50,14 @@ module _ (s : List ℕ) (n : ℕ) (ys : List DdmObject) (i at : ℕ) (row : List
   pub filling_full : n ≤ i → RowFilled s n ys i row
   filling_full h = let z : k.more ≡ 0 = omega (arith, k.few) in ended (ap (λ (m : ℕ). recs_from m s at) z ∙ none s at)
 
-  pub filling_stops : (r : Refused) → param_step_at s at ≡ NoStep r → RowFilled s n ys i row
+  pub filling_stops : (r : Refused) → param_step_at s at ≡ Err r → RowFilled s n ys i row
   filling_stops r e = ended (go k.more)
     where
       go : (m : ℕ) → recs_from m s at ≡ []
       go zero = none s at
-      go (suc m) = one_more m s at (NoStep r) e
+      go (suc m) = one_more m s at (Err r) e
 
-  pub filling_step : (r : DdmObject) (next : ℕ) → n ≤ length ys → i < n → param_step_at s at ≡ Param r next → FillingObjects s n ys (i + 1) next (set row i r)
+  pub filling_step : (r : DdmObject) (next : ℕ) → n ≤ length ys → i < n → param_step_at s at ≡ Ok (r, next) → FillingObjects s n ys (i + 1) next (set row i r)
   filling_step r next room h e = go k.more refl
     where
       go : (m : ℕ) → k.more ≡ m → FillingObjects s n ys (i + 1) next (set row i r)
@@ -74,6 +73,6 @@ module _ (s : List ℕ) (n : ℕ) (ys : List DdmObject) (i at : ℕ) (row : List
                 ∙ ap (λ (j : ℕ). set (k.done ++ (z.0 ∷ drop (suc i) ys)) j r) (sym k.many)
                 ∙ set_at k.done z.0 r (drop (suc i) ys)
                 ∙ (let w : suc i ≡ i + 1 = omega arith in ap (λ (j : ℕ). (k.done ++ (r ∷ [])) ++ drop j ys) w);
-            recs = k.recs ∙ ap (λ (j : ℕ). k.done ++ recs_from j s at) q ∙ ap (λ (l : List DdmObject). k.done ++ l) (one_more m s at (Param r next) e)
+            recs = k.recs ∙ ap (λ (j : ℕ). k.done ++ recs_from j s at) q ∙ ap (λ (l : List DdmObject). k.done ++ l) (one_more m s at (Ok (r, next)) e)
                 ∙ sym (append_assoc k.done (r ∷ []) (recs_from m s next));
           }

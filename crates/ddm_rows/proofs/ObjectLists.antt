@@ -1,5 +1,6 @@
 -- The walk over parameters, as a loop makes it: what it has met, how much of the work area that needs, and where it stands. All
 -- objects of a run are what the same walk meets, unless it stops at a refusal.
+use Rattle.std.specs.Prelude.{Ok, Err}
 use Prim.Native.Nat.{ℕ, zero, suc, ◌+◌, ◌≤◌, ◌<◌}
 use native.Mathlib.Omega.{arith}
 use mathlib.Core.Path.{◌≡◌, refl, sym, ◌∙◌, ap, ap₂}
@@ -11,7 +12,6 @@ use lib.Seq.{drop-drop}
 use Rattle.wire.proofs.WireLaws.{by, pick_yes, pick_no}
 use Rattle.answer.specs.declared.Refused.{Refused}
 use Rattle.ddm_length.specs.Lengths.{measured}
-use Rattle.ddm_length.specs.declared.Marshaled.TheVariants.{Takes, Refused as NoLength}
 use Rattle.ddm_length.proofs.MarkerLaws.{unmarked_length}
 use Rattle.ddm_object.specs.Objects.{Object, Parsed, object, refused, object_of, AllParsed, objects, refused_all, and_more, with_rest, parsed, all_fuel, all_objects, parameters}
 use Rattle.ddm_object.specs.ObjectCalls.{lies_in_work, work_of, param_step_at}
@@ -21,11 +21,11 @@ use Rattle.ddm_object.proofs.AllWalks.{all_from_lem, all_short, all_refused, all
 use Rattle.ddm_object.proofs.ObjectRecords.{in_all, work_content, short_refused}
 use Rattle.ddm_object.proofs.FindingParams.{StepOf, no_step}
 use Rattle.ddm_object.specs.declared.DdmObject.{DdmObject}
-use Rattle.ddm_object.specs.declared.Stepped.TheVariants.{Refused as NoStep}
 use Rattle.ddm_rows.specs.ListCalls.{works_of, measured_objects}
-use Rattle.ddm_rows.specs.declared.ObjectsFound.TheVariants.{Objects, Refused as NoneGiven}
 use Rattle.ddm_rows.specs.declared.Extent.{Extent}
 use Rattle.ddm_rows.specs.inner.WalkedList.{and_all, work_len, WalkedParams}
+use Rattle.ddm_rows.specs.ListCalls.{objects_found}
+use Rattle.ddm_length.specs.Lengths.{takes}
 
 -- the place behind objects one behind the other
 unfoldable pub end_of_objects : ℕ → List Object → ℕ
@@ -132,7 +132,7 @@ module _ (s : List ℕ) (at count work : ℕ) (w : WalkingParams s at count work
 
 -- ---- what the walk comes to
 
-pub walking_end : (s : List ℕ) (at count work : ℕ) (r : Refused) → WalkingParams s at count work → param_step_at s at ≡ NoStep r
+pub walking_end : (s : List ℕ) (at count work : ℕ) (r : Refused) → WalkingParams s at count work → param_step_at s at ≡ Err r
     → WalkedParams s (record { count = count; work = work; end = at })
 walking_end s at count work r w e =
     let z : (x : Refused) × (parsed (drop at s) at ≡ refused x) = no_step s at r w.within e in
@@ -181,17 +181,17 @@ objects_parameters s os e = objects_fuel (suc (length s)) s 0 os (omega arith) e
 
 -- what is measured, by where the walk stopped
 module _ (s : List ℕ) (w : Extent) (k : WalkedParams s w) where
-  pub measured_listed : length s < w.end + 4 → measured_objects s (all_objects s) ≡ Objects w.count w.work
-  measured_listed h = ap (measured_objects s) (all_listed s w k h) ∙ ap₂ Objects (sym k.count_is) (sym k.work_is)
+  pub measured_listed : length s < w.end + 4 → measured_objects s (all_objects s) ≡ Ok (objects_found w.count w.work)
+  measured_listed h = ap (measured_objects s) (all_listed s w k h) ∙ ap₂ Ok (objects_found (sym k.count_is) (sym k.work_is))
 
-  pub measured_broken : (r : Refused) → w.end + 4 ≤ length s → measured (drop w.end s) w.end ≡ NoLength r → measured_objects s (all_objects s) ≡ NoneGiven r
+  pub measured_broken : (r : Refused) → w.end + 4 ≤ length s → measured (drop w.end s) w.end ≡ Err r → measured_objects s (all_objects s) ≡ Err r
   unfolding parsed
   measured_broken r h e = ap (measured_objects s) (all_broken s w k r h (ap (object_of (drop w.end s)) e))
 
   -- the walk stops where nothing can be read
-  pub stopped : (t h : ℕ) → measured (drop w.end s) w.end ≡ Takes t h → ⊥
+  pub stopped : (t h : ℕ) → measured (drop w.end s) w.end ≡ Ok (takes t h) → ⊥
   unfolding parsed
   stopped t h e =
       let q : (x : Refused) × (parsed (drop w.end s) w.end ≡ refused x) = k.stops w.end in
-      let o : parsed (drop w.end s) w.end ≡ object_of (drop w.end s) (Takes t h) = ap (object_of (drop w.end s)) e in
+      let o : parsed (drop w.end s) w.end ≡ object_of (drop w.end s) (Ok (takes t h)) = ap (object_of (drop w.end s)) e in
       let z : ◌≡◌ {A = ℕ} 0 1 = cc in omega arith

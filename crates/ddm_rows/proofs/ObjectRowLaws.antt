@@ -1,5 +1,6 @@
 -- Lists of objects or parameters into a lent work area and a lent row: what the part that lays into the work area does, and the
 -- records that a loop fills in.
+use Rattle.std.specs.Prelude.{Result, Ok, Err}
 use Prim.Native.Nat.{ℕ, ◌+◌, ◌≤◌, ◌<◌}
 use native.Mathlib.Omega.{arith}
 use mathlib.Core.Path.{◌≡◌, refl, sym, ◌∙◌, ap, ap₂}
@@ -17,14 +18,13 @@ use Rattle.ddm_object.specs.Objects.{Object, Parsed, object, refused, AllParsed,
 use Rattle.ddm_object.specs.ObjectCalls.{object_record}
 use Rattle.ddm_object.proofs.FindingParams.{step_is, params_here}
 use Rattle.ddm_object.proofs.ParamWalks.{parameters_stop}
-use Rattle.ddm_object.specs.declared.Stepped.{Stepped}
 use Rattle.ddm_object.specs.declared.DdmObject.{DdmObject}
 use Rattle.ddm_rows.specs.ListCalls.{works_of, object_records, objects_fit, given_list, listed, measured_objects}
 use Rattle.ddm_rows.proofs.ObjectLists.{objects_parameters}
-use Rattle.ddm_rows.specs.declared.ObjectsFound.{ObjectsFound}
-use Rattle.ddm_rows.specs.declared.ObjectsFound.TheVariants.{Objects, Refused as NoneGiven}
 use Rattle.ddm_rows.specs.ObjectRows.{walked_as, count_of, TakesWork}
 use Rattle.ddm_rows.specs.inner.RowsFilled.{one_more_object, recs_from, RowFilled, FillsRow}
+use Rattle.ddm_rows.specs.declared.ObjectsFound.{ObjectsFound}
+use Rattle.ddm_rows.specs.ListCalls.{objects_found}
 
 -- ---- the work area
 
@@ -39,7 +39,7 @@ length_zero (x ∷ l) e = absurd (omega arith)
 none_needed : (work : List ℕ) → landed true work [] ≡ work
 none_needed work = splice_none work 0
 
-pub takes_refused : (s : List ℕ) (x : AllParsed) (work : List ℕ) (rows : ℕ) (r : Refused) → measured_objects s x ≡ NoneGiven r → TakesWork s x work rows (NoneGiven r) work
+pub takes_refused : (s : List ℕ) (x : AllParsed) (work : List ℕ) (rows : ℕ) (r : Refused) → measured_objects s x ≡ Err r → TakesWork s x work rows (Err r) work
 unfolding works_of
 takes_refused s (objects os) work rows r e = absurd (let z : ◌≡◌ {A = ℕ} 0 1 = cc in omega arith)
 takes_refused s (refused_all y) work rows r e =
@@ -49,11 +49,11 @@ takes_refused s (refused_all y) work rows r e =
     }
 
 -- what was measured of objects is of the parameters
-pub measured_walked : (whole : Bool) (s : List ℕ) (n m : ℕ) → measured_objects s (walked_as whole s) ≡ Objects n m
+pub measured_walked : (whole : Bool) (s : List ℕ) (n m : ℕ) → measured_objects s (walked_as whole s) ≡ Ok (objects_found n m)
     → (walked_as whole s ≡ objects (parameters s)) × (n ≡ length (parameters s)) × (m ≡ length (works_of s 0 (parameters s)))
 measured_walked whole s n m e = go (walked_as whole s) refl e
   where
-    go : (x : AllParsed) → walked_as whole s ≡ x → measured_objects s x ≡ Objects n m
+    go : (x : AllParsed) → walked_as whole s ≡ x → measured_objects s x ≡ Ok (objects_found n m)
         → (walked_as whole s ≡ objects (parameters s)) × (n ≡ length (parameters s)) × (m ≡ length (works_of s 0 (parameters s)))
     go (objects os) q r =
         let p : parameters s ≡ os = walked_parameters whole s os q in
@@ -64,28 +64,28 @@ measured_walked whole s n m e = go (walked_as whole s) refl e
 
 -- n records and m bytes, by the two tests
 module _ (s : List ℕ) (os : List Object) (work : List ℕ) (rows n m : ℕ) (en : n ≡ length os) (em : m ≡ length (works_of s 0 os)) where
-  pub takes_both : m ≤ length work → n ≤ rows → (after : List ℕ) → after ≡ laid work 0 (works_of s 0 os) → TakesWork s (objects os) work rows (Objects n m) after
+  pub takes_both : m ≤ length work → n ≤ rows → (after : List ℕ) → after ≡ laid work 0 (works_of s 0 os) → TakesWork s (objects os) work rows (Ok (objects_found n m)) after
   takes_both h k after a =
       let t : objects_fit s os (length work) rows ≡ true =
       and_both (leb (length (works_of s 0 os)) (length work)) (leb (length os) rows) (le-leb (length (works_of s 0 os)) (length work) (omega arith)) (le-leb (length os) rows (omega arith)) in
       record {
-        answers = ap₂ Objects en em ∙ sym (pick_yes _ _ t);
+        answers = ap₂ Ok (objects_found en em) ∙ sym (pick_yes _ _ t);
         work_is = a ∙ laid_fits work 0 (works_of s 0 os) (omega arith) ∙ sym (pick_yes _ _ t);
       }
 
   -- nothing is laid down where nothing is needed
-  pub takes_none : m ≤ 0 → n ≤ rows → TakesWork s (objects os) work rows (Objects n m) work
+  pub takes_none : m ≤ 0 → n ≤ rows → TakesWork s (objects os) work rows (Ok (objects_found n m)) work
   takes_none h k =
       takes_both (omega arith) k work
       (sym (ap (laid work 0) (length_zero (works_of s 0 os) (omega arith)) ∙ laid_fits work 0 [] (omega arith) ∙ splice_none work 0))
 
-  short : objects_fit s os (length work) rows ≡ false → TakesWork s (objects os) work rows (NoneGiven (no_room 0 m n)) work
-  short t = record { answers = sym (pick_no _ _ t ∙ ap₂ (λ (x y : ℕ). NoneGiven (no_room 0 x y)) (sym em) (sym en)); work_is = sym (pick_no _ _ t) }
+  short : objects_fit s os (length work) rows ≡ false → TakesWork s (objects os) work rows (Err (no_room 0 m n)) work
+  short t = record { answers = sym (pick_no _ _ t ∙ ap₂ (λ (x y : ℕ). Err (no_room 0 x y)) (sym em) (sym en)); work_is = sym (pick_no _ _ t) }
 
-  pub takes_no_bytes : length work < m → TakesWork s (objects os) work rows (NoneGiven (no_room 0 m n)) work
+  pub takes_no_bytes : length work < m → TakesWork s (objects os) work rows (Err (no_room 0 m n)) work
   takes_no_bytes l = short (ap (λ (t : Bool). and t (leb (length os) rows)) (lt-leb (length (works_of s 0 os)) (length work) (omega arith)))
 
-  pub takes_no_rows : rows < n → TakesWork s (objects os) work rows (NoneGiven (no_room 0 m n)) work
+  pub takes_no_rows : rows < n → TakesWork s (objects os) work rows (Err (no_room 0 m n)) work
   takes_no_rows l =
       short (ap (and (leb (length (works_of s 0 os)) (length work))) (lt-leb (length os) rows (omega arith)) ∙ and_no (leb (length (works_of s 0 os)) (length work)))
 
@@ -103,7 +103,7 @@ recs_records s (o ∷ os) at e = go (parsed (drop at s) at) refl (λ next h. rec
         let h : x ∷ parameters (drop (at + x.consumed) s) ≡ o ∷ os = sym (params_here s at x q) ∙ e in
         let i : x ≡ o = cc in
         let t : parameters (drop (at + x.consumed) s) ≡ os = cc in
-        ap (λ (z : Stepped). one_more_object z (λ r next. r ∷ recs_from (length os) s next)) (step_is s at x q)
+        ap (λ (z : Result (DdmObject × ℕ) Refused). one_more_object z (λ r next. r ∷ recs_from (length os) s next)) (step_is s at x q)
         ∙ ap (λ (l : List DdmObject). object_record s at x ∷ l) (ih (at + x.consumed) t)
         ∙ ap (λ (y : Object). object_record s at y ∷ object_records s (at + y.consumed) os) i
     go (refused z) q ih =
@@ -126,14 +126,14 @@ none_landed s size ys =
 
 -- ---- work area and row together
 
-module _ (whole : Bool) (s : List ℕ) (work : List ℕ) (ys : List DdmObject) (r : ObjectsFound) (zw : List ℕ) (t : TakesWork s (walked_as whole s) work (length ys) r zw) where
+module _ (whole : Bool) (s : List ℕ) (work : List ℕ) (ys : List DdmObject) (r : Result ObjectsFound Refused) (zw : List ℕ) (t : TakesWork s (walked_as whole s) work (length ys) r zw) where
   -- an answer's records fit the row
   pub count_fits : count_of r ≤ length ys
   count_fits = rw t.answers (go (walked_as whole s))
     where
       go : (x : AllParsed) → count_of (given_list s (length work) (length ys) x) ≤ length ys
       go (objects os) =
-          pick_by (λ (a : ObjectsFound). count_of a ≤ length ys) (objects_fit s os (length work) (length ys)) (Objects (length os) (length (works_of s 0 os))) (NoneGiven (no_room 0 (length (works_of s 0 os)) (length os)))
+          pick_by (λ (a : Result ObjectsFound Refused). count_of a ≤ length ys) (objects_fit s os (length work) (length ys)) (Ok (objects_found (length os) (length (works_of s 0 os)))) (Err (no_room 0 (length (works_of s 0 os)) (length os)))
           (λ f. leb-true (length os) (length ys) (and_split (leb (length (works_of s 0 os)) (length work)) (leb (length os) (length ys)) f).1)
           (λ f. omega arith)
       go (refused_all y) = omega arith

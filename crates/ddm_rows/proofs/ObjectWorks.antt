@@ -1,4 +1,5 @@
 -- The loop that looks for the parameter whose data go through the work area.
+use Rattle.std.specs.Prelude.{Err}
 use Prim.Native.Nat.{ℕ, ◌+◌, ◌≤◌}
 use native.Mathlib.Omega.{arith}
 use mathlib.Core.Path.{◌≡◌, refl, sym, ◌∙◌, ap}
@@ -17,7 +18,6 @@ use Rattle.ddm_object.proofs.ParamWalks.{found, takes_all, parameters_stop}
 use Rattle.ddm_object.proofs.ObjectRecords.{in_all, work_content, short_refused}
 use Rattle.ddm_object.proofs.FindingParams.{StepOf, no_step, params_here}
 use Rattle.ddm_object.specs.declared.DdmObject.{DdmObject}
-use Rattle.ddm_object.specs.declared.Stepped.TheVariants.{Refused as NoStep}
 use Rattle.ddm_rows.specs.ListCalls.{works_of}
 
 pub record Seeking (s : List ℕ) (at : ℕ) : Type 0 where
@@ -27,7 +27,7 @@ pub record Seeking (s : List ℕ) (at : ℕ) : Type 0 where
 pub seeking_start : (s : List ℕ) → Seeking s 0
 seeking_start s = record { within = omega arith; none = refl }
 
-pub seeking_end : (s : List ℕ) (at : ℕ) (r : Refused) (work : List ℕ) → Seeking s at → param_step_at s at ≡ NoStep r → work ≡ laid work 0 (works_of s 0 (parameters s))
+pub seeking_end : (s : List ℕ) (at : ℕ) (r : Refused) (work : List ℕ) → Seeking s at → param_step_at s at ≡ Err r → work ≡ laid work 0 (works_of s 0 (parameters s))
 unfolding works_of
 seeking_end s at r work k e =
     let z : (x : Refused) × (parsed (drop at s) at ≡ refused x) = no_step s at r k.within e in

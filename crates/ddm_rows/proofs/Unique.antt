@@ -1,5 +1,6 @@
 -- Any two outcomes that a contract of this crate allows are equal. Each statement names the contract, and doesn't write it again.
 -- Of a function over a row, or over a walker, its own clause is named, and shown to be a fact that leaves no choice.
+use Rattle.std.specs.Prelude.{Result}
 use Prim.Native.Nat.{ℕ}
 use mathlib.Core.Path.{◌≡◌, refl, sym, ◌∙◌}
 use mathlib.Core.Bool.{Bool}
@@ -17,8 +18,6 @@ use Rattle.ddm_rows.specs.ListCalls.{Lists, ParsesObjects, ListsParameters}
 use Rattle.ddm_object.specs.ObjectCalls.{param_step_at}
 use Rattle.wire.specs.Parts.{RestAt}
 use Rattle.ddm_object.specs.declared.DdmObject.{DdmObject}
-use Rattle.ddm_rows.specs.declared.ObjectsFound.{ObjectsFound}
-use Rattle.ddm_object.specs.declared.Stepped.{Stepped}
 use Rattle.ddm_rows.specs.declared.Walker.{Walker}
 use Rattle.ddm_rows.proofs.measure_objects.Reads as measure_objects
 use Rattle.ddm_rows.proofs.measure_parameters.Reads as measure_parameters
@@ -31,27 +30,29 @@ use Rattle.ddm_rows.specs.contracts.Walker.new as new
 use Rattle.ddm_rows.specs.contracts.Walker.step as step
 use Rattle.ddm_rows.specs.contracts.Walker.moved as moved
 use Rattle.ddm_rows.specs.contracts.Walker.rest as rest
+use Rattle.ddm_rows.specs.declared.ObjectsFound.{ObjectsFound}
+use Rattle.answer.specs.declared.Refused.{Refused}
 
 -- ---- lists, measured
 
-pub measure_objects_one : (κs : Lfts 1) (d : Bor (List ℕ)) (r r' : ObjectsFound) → measure_objects.Post κs (d, tt) r (d, tt) → measure_objects.Post κs (d, tt) r' (d, tt) → r ≡ r'
+pub measure_objects_one : (κs : Lfts 1) (d : Bor (List ℕ)) (r r' : Result ObjectsFound Refused) → measure_objects.Post κs (d, tt) r (d, tt) → measure_objects.Post κs (d, tt) r' (d, tt) → r ≡ r'
 measure_objects_one κs d r r' p q = p ∙ sym q
 
-pub measure_parameters_one : (κs : Lfts 1) (d : Bor (List ℕ)) (r r' : ObjectsFound) → measure_parameters.Post κs (d, tt) r (d, tt) → measure_parameters.Post κs (d, tt) r' (d, tt) → r ≡ r'
+pub measure_parameters_one : (κs : Lfts 1) (d : Bor (List ℕ)) (r r' : Result ObjectsFound Refused) → measure_parameters.Post κs (d, tt) r (d, tt) → measure_parameters.Post κs (d, tt) r' (d, tt) → r ≡ r'
 measure_parameters_one κs d r r' p q = p ∙ sym q
 
 -- ---- lists, with a work area and a row
 
-pub lists_one : (s : List ℕ) (os : List Object) (answer : ℕ → ℕ → ObjectsFound) (work : List ℕ) (row : List DdmObject) (r r' : ObjectsFound) (w w' : List ℕ) (l l' : List DdmObject)
+pub lists_one : (s : List ℕ) (os : List Object) (answer : ℕ → ℕ → Result ObjectsFound Refused) (work : List ℕ) (row : List DdmObject) (r r' : Result ObjectsFound Refused) (w w' : List ℕ) (l l' : List DdmObject)
     → Lists s os answer work row r w l → Lists s os answer work row r' w' l' → (r ≡ r') × (w ≡ w') × (l ≡ l')
 lists_one s os answer work row r r' w w' l l' p q = (p.answers ∙ sym q.answers, p.work_is ∙ sym q.work_is, p.row_is ∙ sym q.row_is)
 
 module _ {M : Type 1} {𝓤 : Ura M} (𝓛 : Logic 𝓤) (mem : Memory → SProp 𝓤) (run : Routine → Fun 𝓤) where
-  pub parse_ddm_objects_says : (κs : Lfts 3) (s : Bor (List ℕ)) (work : MutBor (List ℕ)) (row : MutBor (List DdmObject)) (r : ObjectsFound) (w : List ℕ) (l : List DdmObject)
+  pub parse_ddm_objects_says : (κs : Lfts 3) (s : Bor (List ℕ)) (work : MutBor (List ℕ)) (row : MutBor (List DdmObject)) (r : Result ObjectsFound Refused) (w : List ℕ) (l : List DdmObject)
       → (parse_ddm_objects.clauses 𝓛 mem run κs (s, (work, (row, tt)))).ensures tt r (s, (at_last work w, (at_last row l, tt))) ≡ fact 𝓤 (ParsesObjects s.now work.now row.now r w l)
   parse_ddm_objects_says κs s work row r w l = refl
 
-  pub parameters_says : (κs : Lfts 3) (s : Bor (List ℕ)) (work : MutBor (List ℕ)) (row : MutBor (List DdmObject)) (r : ObjectsFound) (w : List ℕ) (l : List DdmObject)
+  pub parameters_says : (κs : Lfts 3) (s : Bor (List ℕ)) (work : MutBor (List ℕ)) (row : MutBor (List DdmObject)) (r : Result ObjectsFound Refused) (w : List ℕ) (l : List DdmObject)
       → (parameters.clauses 𝓛 mem run κs (s, (work, (row, tt)))).ensures tt r (s, (at_last work w, (at_last row l, tt))) ≡ fact 𝓤 (ListsParameters s.now work.now row.now r w l)
   parameters_says κs s work row r w l = refl
 
@@ -71,7 +72,7 @@ module _ {M : Type 1} {𝓤 : Ura M} (𝓛 : Logic 𝓤) (mem : Memory → SProp
   pub new_says : (κs : Lfts 1) (d : Bor (List ℕ)) (w : Walker) → (new.clauses 𝓛 mem run κs (d, tt)).ensures tt w (d, tt) ≡ fact 𝓤 ((w.«data» ≡ d) × (w.at ≡ 0))
   new_says κs d w = refl
 
-  pub step_says : (κs : Lfts 1) (w : Walker) (r : Stepped) → (step.clauses 𝓛 mem run κs (w, tt)).ensures tt r (w, tt) ≡ fact 𝓤 (r ≡ param_step_at w.«data».now w.at)
+  pub step_says : (κs : Lfts 1) (w : Walker) (r : Result (DdmObject × ℕ) Refused) → (step.clauses 𝓛 mem run κs (w, tt)).ensures tt r (w, tt) ≡ fact 𝓤 (r ≡ param_step_at w.«data».now w.at)
   step_says κs w r = refl
 
   pub moved_says : (κs : Lfts 1) (w : Walker) (at : ℕ) (r : Walker) → (moved.clauses 𝓛 mem run κs (w, (at, tt))).ensures tt r (w, (at, tt)) ≡ fact 𝓤 ((r.«data» ≡ w.«data») × (r.at ≡ at))
@@ -83,11 +84,11 @@ module _ {M : Type 1} {𝓤 : Ura M} (𝓛 : Logic 𝓤) (mem : Memory → SProp
 -- ---- what the calls over rows share
 
 module _ (κs : Lfts 2) (s : Bor (List ℕ)) (work : MutBor (List ℕ)) (whole : Bool) (rows : ℕ) where
-  pub take_as_one : (r r' : ObjectsFound) (l l' : List ℕ)
+  pub take_as_one : (r r' : Result ObjectsFound Refused) (l l' : List ℕ)
       → take_as.Post κs (s, (whole, (work, (rows, tt)))) r (s, (whole, (at_last work l, (rows, tt))))
       → take_as.Post κs (s, (whole, (work, (rows, tt)))) r' (s, (whole, (at_last work l', (rows, tt))))
       → (r ≡ r') × (l ≡ l')
   take_as_one r r' l l' p q = (p.answers ∙ sym q.answers, p.work_is ∙ sym q.work_is)
 
-pub count_of_one : (κs : Lfts 0) (x : ObjectsFound) (r r' : ℕ) → count_of.Post κs (x, tt) r (x, tt) → count_of.Post κs (x, tt) r' (x, tt) → r ≡ r'
+pub count_of_one : (κs : Lfts 0) (x : Result ObjectsFound Refused) (r r' : ℕ) → count_of.Post κs (x, tt) r (x, tt) → count_of.Post κs (x, tt) r' (x, tt) → r ≡ r'
 count_of_one κs x r r' p q = p ∙ sym q

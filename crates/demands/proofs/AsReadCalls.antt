@@ -1,4 +1,5 @@
 -- Salvaged as read, over the records that the contracts of the exported functions cite.
+use Rattle.std.specs.Prelude.{Result, Ok, Err}
 use Prim.Native.Nat.{ℕ, ◌≤◌}
 use native.Mathlib.Omega.{arith}
 use mathlib.Core.Path.{◌≡◌, refl, sym, ap, ap₂, subst, ◌∙◌}
@@ -13,12 +14,8 @@ use Rattle.dss_frame.specs.FrameRecords.{payloads_of, frame_records}
 use Rattle.dss_frame.specs.Salvage.{salvaged}
 use Rattle.dss_frame.specs.Salvage as reading
 use Rattle.dss_reader.specs.Reader.{stands_at, frames_fit, given_frames, room_all}
-use Rattle.dss_reader.specs.declared.FramesRead.{FramesRead}
-use Rattle.dss_reader.specs.declared.FramesRead.TheVariants.{Frames, Refused as NoneRead}
 use Rattle.dss_salvage.specs.SalvageEntries.{salvaged_bytes, salvaged_row}
 use Rattle.dss_salvage_call.specs.SalvageCall.{entries_fit, given_entries}
-use Rattle.dss_salvage.specs.declared.Salvaged.{Salvaged}
-use Rattle.dss_salvage.specs.declared.Salvaged.TheVariants.{Done, Refused as NotSalvaged}
 use Rattle.gateway_words.specs.AnswerWords.{done_words, Answered}
 use Rattle.gateway_row.specs.RowWords.{record_words, places}
 use Rattle.gateway_frames.specs.FramesWords.{frames_words, frames_row, ReadsAllFrames}
@@ -27,13 +24,19 @@ use Rattle.demands.specs.AsRead.{NoneFull, entries_of}
 use Rattle.demands.proofs.AsRead.{salvages_as_read, entries_counted, entries_bytes, entries_words}
 use Rattle.demands.proofs.KeptFrame.{answer_says}
 use Rattle.demands.specs.KeptMeaning.{SameInWords}
+use Rattle.dss_reader.specs.declared.DssReader.{DssReader}
+use Rattle.dss_reader.specs.declared.FramesRead.{FramesRead}
+use Rattle.answer.specs.declared.Refused.{Refused}
+use Rattle.dss_salvage.specs.declared.Salvaging.{Salvaging}
+use Rattle.dss_salvage.specs.inner.SalvageMeasure.{counted}
+use Rattle.dss_reader.specs.Reader.{frames_read}
 
 -- what the two calls answer, by whether so many frames with so many bytes, read up to q, fit
-abbrev reads : Bool → ℕ → ℕ → ℕ → FramesRead
-reads fit count bytes q = pick fit (Frames count bytes (stands_at q)) (NoneRead (no_room 0 bytes count) (stands_at 0))
+abbrev reads : Bool → ℕ → ℕ → ℕ → Result FramesRead Refused × DssReader
+reads fit count bytes q = pick fit (Ok (frames_read count bytes), stands_at q) (Err (no_room 0 bytes count), stands_at 0)
 
-abbrev salvages : Bool → ℕ → ℕ → ℕ → Salvaged
-salvages fit count bytes q = pick fit (Done count bytes q) (NotSalvaged (no_room 0 bytes count))
+abbrev salvages : Bool → ℕ → ℕ → ℕ → Result Salvaging Refused
+salvages fit count bytes q = pick fit (Ok (counted count bytes q)) (Err (no_room 0 bytes count))
 
 same_number : (fit : Bool) (count bytes q : ℕ) → get_or (salvaged_words (salvages fit count bytes q)) 0 0 ≡ get_or (frames_words (reads fit count bytes q)) 0 0
 same_number true count bytes q = refl
@@ -71,7 +74,7 @@ module _ (s : List ℕ) (fs : List Frame) (q : ℕ) (room row words words' : Lis
       let u : Answered (frames_words (reads fit (length fs) (length (payloads_of s fs)) q)) words n answer =
       subst (λ (y : AllRead). Answered (frames_words (given_frames s 0 (length room) (places row) y)) words n answer) e a.answers in
       let v : Answered (salvaged_words (salvages fit (length fs) (length (payloads_of s fs)) q)) words' n' answer' =
-      subst (λ (y : Salvaged). Answered (salvaged_words y) words' n' answer') (ap (given_entries s (length room) (places row)) x ∙ answered) b.answers in
+      subst (λ (y : Result Salvaging Refused). Answered (salvaged_words y) words' n' answer') (ap (given_entries s (length room) (places row)) x ∙ answered) b.answers in
       record {
         number_is = v.number_is ∙ same_number fit (length fs) (length (payloads_of s fs)) q ∙ sym u.number_is;
         room_is =

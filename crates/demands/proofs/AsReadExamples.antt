@@ -1,4 +1,5 @@
 -- Salvaged as read: a run that meets what is asked, and that the two premises are needed, of a frame and of what is left behind the last.
+use Rattle.std.specs.Prelude.{Err}
 use Prim.Native.Nat.{ℕ, zero, suc, ◌+◌, ◌*◌, ◌≤◌}
 use native.Mathlib.Omega.{arith}
 use mathlib.Core.Path.{◌≡◌, refl, ap, subst, ◌∙◌}
@@ -20,7 +21,6 @@ use Rattle.dss_frame.specs.Salvage.{Entry, Salvaged, salvaged, salvage_fuel}
 use Rattle.dss_frame.specs.Written.{Sent, written, chunks, chunks_fuel}
 use Rattle.dss_laws.proofs.FramesLaws.{frames_end}
 use Rattle.dss_reader.specs.Reader.{frame_end}
-use Rattle.dss_reader.specs.declared.FrameEnd.TheVariants.{Refused as NoEnd}
 use Rattle.dss_salvage.specs.SalvageEntries.{salvaged_bytes, salvaged_row}
 use Rattle.gateway_frames.proofs.lattrugone_read_all_frames.Reads as lattrugone_read_all_frames
 use Rattle.gateway_salvage.proofs.lattrugone_salvage.Reads as lattrugone_salvage
@@ -124,10 +124,10 @@ left_same κs κs' =
 
 -- ---- why it ended: at the tail of `cut` bytes are missing; with 0001 in that length's place, they never come
 
-cut_yet : frame_end cut 6 ≡ NoEnd (record { why = Incomplete; place = 6 })
+cut_yet : frame_end cut 6 ≡ Err (record { why = Incomplete; place = 6 })
 cut_yet = tells_why.yet cut 6 cut_long cut_short
 
-dead_never : frame_end dead_cut 0 ≡ NoEnd (record { why = DeadContinuation; place = 32767 })
+dead_never : frame_end dead_cut 0 ≡ Err (record { why = DeadContinuation; place = 32767 })
 dead_never = tells_why.never dead_cut 0 32767 (omega arith) dead_walk
 
 -- ---- what is asked is needed

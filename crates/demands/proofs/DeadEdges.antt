@@ -1,5 +1,6 @@
 -- Document 02, W-203, both sides of the edge, computed at real sizes: where a continuation length of 0 or 1 stands, 16 with its
 -- place, and the position stays; where it isn't wholly there, 1; and a length of 2 is a frame's last.
+use Rattle.std.specs.Prelude.{Err}
 use Prim.Native.Nat.{ℕ, zero, suc}
 use mathlib.Core.Path.{◌≡◌, refl}
 use mathlib.Core.Bool.{false}
@@ -13,7 +14,6 @@ use Rattle.dss_frame.specs.Frames.{AllRead, frames, refused_all, frames_fuel, al
 use Rattle.dss_frame.specs.Salvage.{salvage_fuel, salvaged}
 use Rattle.dss_frame.specs.declared.Rules.TheVariants.{Reader, Salvage}
 use Rattle.dss_reader.specs.Reader.{frame_end, is_end}
-use Rattle.dss_reader.specs.declared.FrameEnd.TheVariants.{Refused as NoEnd}
 use Rattle.demands.proofs.Table.{p2}
 
 -- so many full continuations, and what stands behind them
@@ -91,7 +91,7 @@ unfolding behind_reply several fulls read_at frame_walk continuations walk_fuel
 stands_still = (refl, refl, refl)
 
 -- the frame's end is refused alike, and the yes-or-no call says no
-pub no_end : (frame_end behind_reply 6 ≡ NoEnd (record { why = DeadContinuation; place = 32773 })) × (is_end (frame_end behind_reply 6) ≡ false)
+pub no_end : (frame_end behind_reply 6 ≡ Err (record { why = DeadContinuation; place = 32773 })) × (is_end (frame_end behind_reply 6) ≡ false)
 unfolding behind_reply several fulls frame_end frame_walk continuations walk_fuel
 no_end = (refl, refl)
 

@@ -1,5 +1,6 @@
 -- What `dead_again`, `exported_dead_again` and `exported_taken_by_end` ask is met: a first continuation length of 1, with nothing
 -- behind it, and with three bytes more, into another room; and a reply before it.
+use Rattle.std.specs.Prelude.{Result, Err}
 use Prim.Native.Nat.{ℕ}
 use native.Mathlib.Omega.{arith}
 use mathlib.Core.Path.{◌≡◌, refl}
@@ -13,11 +14,11 @@ use Rattle.wire.specs.Bytes.{splice, laid}
 use Rattle.dss_frame.specs.Segments.{payload_of, end_of, frame_walk, continuations, walk_fuel}
 use Rattle.dss_frame.specs.Reading.{read_at, absorb, absorb_fuel, look}
 use Rattle.dss_reader.specs.Reader.{stands_at, frame_end}
-use Rattle.dss_reader.specs.declared.FrameRead.{FrameRead}
-use Rattle.dss_reader.specs.declared.FrameRead.TheVariants.{Refused as NotRead}
 use Rattle.demands.proofs.DeadEdges.{fulls, several, behind_reply}
 use Rattle.demands.proofs.Kept.{read_refused, dead_again, exported_dead_again, exported_taken_by_end}
 use Rattle.demands.proofs.KeptExamples.{lending, lending_room}
+use Rattle.dss_frame.specs.declared.DssFrame.{DssFrame}
+use Rattle.dss_reader.specs.declared.DssReader.{DssReader}
 
 abbrev at_length : Refused
 at_length = record { why = DeadContinuation; place = 32767 }
@@ -31,11 +32,11 @@ unfolding several fulls splice laid read_at frame_walk continuations walk_fuel
 stays_there κs = read_refused κs (lending_room (9 ∷ [])) at_length (9 ∷ []) (stands_at 0) (stands_at 0) (lending (several 0xD0 0 (0 ∷ 1 ∷ []))) (record { answers = refl; room_is = refl })
 
 pub dead_twice : (κs κs' : Lfts 2)
-    → (stands_at 0 ≡ stands_at 0) × (◌≡◌ {A = FrameRead} (NotRead at_length (stands_at 0)) (NotRead at_length (stands_at 0))) × (◌≡◌ {A = List ℕ} (8 ∷ 8 ∷ []) (8 ∷ 8 ∷ []))
+    → (stands_at 0 ≡ stands_at 0) × (◌≡◌ {A = Result DssFrame Refused × DssReader} (Err at_length, stands_at 0) (Err at_length, stands_at 0)) × (◌≡◌ {A = List ℕ} (8 ∷ 8 ∷ []) (8 ∷ 8 ∷ []))
 unfolding several fulls splice laid read_at frame_walk continuations walk_fuel
 dead_twice κs κs' =
     dead_again κs κs' (stands_at 0) (stands_at 0) (lending (several 0xD0 0 (0 ∷ 1 ∷ []))) (lending (several 0xD0 0 (0 ∷ 1 ∷ []) ++ more)) (lending_room (9 ∷ [])) (lending_room (8 ∷ 8 ∷ [])) more
-    at_length (NotRead at_length (stands_at 0)) (9 ∷ []) (8 ∷ 8 ∷ []) refl refl (record { answers = refl; room_is = refl }) (record { answers = refl; room_is = refl })
+    at_length (Err at_length, stands_at 0) (9 ∷ []) (8 ∷ 8 ∷ []) refl refl (record { answers = refl; room_is = refl }) (record { answers = refl; room_is = refl })
 
 -- its words: 16, and the place of the length
 abbrev dead_words : List ℕ

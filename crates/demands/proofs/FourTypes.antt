@@ -1,4 +1,5 @@
 -- The readings with five types and with four: the same, unless the four-type reading refuses a type 5.
+use Rattle.std.specs.Prelude.{Result, Ok, Err}
 use Prim.Native.Nat.{ℕ, zero, suc, ◌+◌, ◌-◌, ◌%◌}
 use native.Mathlib.Omega.{arith}
 use mathlib.Core.Path.{◌≡◌, refl, sym, ap, subst, ◌∙◌}
@@ -15,10 +16,6 @@ use Rattle.dss_head.specs.Heads.{type_at, head_with, head_at}
 use Rattle.dss_head.specs.declared.DssType.{DssType}
 use Rattle.dss_head.specs.declared.DssType.TheVariants.{Communication}
 use Rattle.dss_head.specs.declared.DssHeader.{DssHeader}
-use Rattle.dss_head.specs.declared.TypeFound.{TypeFound}
-use Rattle.dss_head.specs.declared.TypeFound.TheVariants.{Is, Refused as NoType}
-use Rattle.dss_head.specs.declared.HeadFound.{HeadFound}
-use Rattle.dss_head.specs.declared.HeadFound.TheVariants.{Head, Refused as Refuses}
 use Rattle.dss_frame.specs.declared.Rules.TheVariants.{Reader}
 use Rattle.dss_frame.specs.Segments.{Segment, Walk, whole, short, dead, payload_of, end_of, frame_walk, continuations, walk_fuel}
 use Rattle.dss_frame.specs.Reading.{Read, frame, refused, Look, finished, absorbs, refuses, look, look_at, with_chained, behind_frame, absorb, absorb_fuel, read_head, read_walk, read_at, starts_extended, if_whole}
@@ -34,15 +31,15 @@ use Rattle.demands.proofs.LayoutExamples.{unanswered}
 pub types_as_four : TypesAsFour type_at
 types_as_four format place h = rw (ne_eqb (format % 16) 5 h)
 
-five_refused : (format place : ℕ) → format % 16 ≡ 5 → four_types format place ≡ NoType (type_five place)
+five_refused : (format place : ℕ) → format % 16 ≡ 5 → four_types format place ≡ Err (type_five place)
 five_refused format place e = rw e
 
 pub heads_as_four : HeadsAsFour head_at
 heads_as_four s p =
-    picks (SameOrFive s Refuses) (ltb (length s - p) 6) _ refl (λ _. inl refl)
-    (λ _. picks (SameOrFive s Refuses) (eqb (get_or s (p + 2) 0) 0xD0) _ refl (λ u. typed (eqb-true _ _ u)) (λ _. inl refl))
+    picks (SameOrFive s Err) (ltb (length s - p) 6) _ refl (λ _. inl refl)
+    (λ _. picks (SameOrFive s Err) (eqb (get_or s (p + 2) 0) 0xD0) _ refl (λ u. typed (eqb-true _ _ u)) (λ _. inl refl))
   where
-    typed : get_or s (p + 2) 0 ≡ 0xD0 → SameOrFive s Refuses (head_with s p (type_at (get_or s (p + 3) 0) p)) (head_with s p (four_types (get_or s (p + 3) 0) p))
+    typed : get_or s (p + 2) 0 ≡ 0xD0 → SameOrFive s Err (head_with s p (type_at (get_or s (p + 3) 0) p)) (head_with s p (four_types (get_or s (p + 3) 0) p))
     typed m =
         let b : ℕ = get_or s (p + 3) 0 in
         by (eqb (b % 16) 5)
@@ -62,12 +59,12 @@ module _ (At : List ℕ → ℕ → Type 0) (heads : Heads) where
   passed {A} s no-a no-b f g alike on x y (inl e) = subst (λ (z : A). Same s no-b (f x) (g z)) e (alike x)
   passed s no-a no-b f g alike on x y (inr r) = inr (record { q = r.q; five = r.five; is = ap g r.is ∙ on r.q })
 
-  module _ (heads-same : (s : List ℕ) (p : ℕ) → Same s Refuses (head_at s p) (heads s p)) (s : List ℕ) where
+  module _ (heads-same : (s : List ℕ) (p : ℕ) → Same s Err (head_at s p) (heads s p)) (s : List ℕ) where
     look_same : (t : DssType) (extended : Bool) (q : ℕ) → Same s refuses (look Reader s t extended q) (look_by heads s t extended q)
     unfolding look look_by
     look_same t extended q =
         picks (Same s refuses) (ltb (length s - q) 6) _ refl (λ _. inl refl)
-        (λ _. passed s Refuses refuses (look_at Reader s t extended q) (look_at Reader s t extended q) (λ _. inl refl) (λ _. refl) _ _ (heads-same s q))
+        (λ _. passed s Err refuses (look_at Reader s t extended q) (look_at Reader s t extended q) (λ _. inl refl) (λ _. refl) _ _ (heads-same s q))
 
     behind_same : (h : DssHeader) (gs : List Segment) (l m : Look) (more more' : DssHeader → List Segment → Read) → Same s refuses l m
         → ((h' : DssHeader) (gs' : List Segment) → Same s refused (more h' gs') (more' h' gs')) → Same s refused (behind_frame h gs l more) (behind_frame h gs m more')
@@ -86,11 +83,11 @@ module _ (At : List ℕ → ℕ → Type 0) (heads : Heads) where
 
     head_same : (p : ℕ) (gs : List Segment) → Same s refused (read_head Reader s p gs (head_at s p)) (read_head_by heads s p gs (heads s p))
     unfolding absorb
-    head_same p gs = passed s Refuses refused (read_head Reader s p gs) (read_head_by heads s p gs) go (λ _. refl) _ _ (heads-same s p)
+    head_same p gs = passed s Err refused (read_head Reader s p gs) (read_head_by heads s p gs) go (λ _. refl) _ _ (heads-same s p)
       where
-        go : (x : HeadFound) → Same s refused (read_head Reader s p gs x) (read_head_by heads s p gs x)
-        go (Refuses r) = inl refl
-        go (Head h) =
+        go : (x : Result DssHeader Refused) → Same s refused (read_head Reader s p gs x) (read_head_by heads s p gs x)
+        go (Err r) = inl refl
+        go (Ok h) =
             picks (Same s refused) (ltb (be16 s p) 6) _ refl (λ _. inl refl)
             (λ _. picks (Same s refused) (eqb (be16 s p) 0xFFFF) _ refl (λ _. inl refl) (λ _. absorb_same (length s) p h gs))
 
@@ -149,7 +146,7 @@ met : (read_by four_heads unanswered 0 ≡ refused (type_five 0))
 unfolding read_at absorb absorb_fuel look read_by absorb_by look_by all_by all_fuel_by payload_of end_of frame_walk continuations walk_fuel
 met = (refl, refl, refl, refl)
 
-types_met : (0xF4 % 16 ≡ 5 → ⊥) × (type_at 0xF4 0 ≡ Is Communication) × (four_types 0xF4 0 ≡ Is Communication)
+types_met : (0xF4 % 16 ≡ 5 → ⊥) × (type_at 0xF4 0 ≡ Ok Communication) × (four_types 0xF4 0 ≡ Ok Communication)
 types_met = (λ e. omega arith, refl, refl)
 
 -- ---- ruled out: a reader that takes every type for a type 5 and refuses it, and a type reading that refuses a communication
@@ -162,5 +159,5 @@ no_refusing_all all = go (all p2 0)
     go (inl e) = frame_refused (read_by four_heads p2 0) _ (type_five 0) refl (sym e)
     go (inr f) = frame_refused (read_by four_heads p2 0) _ (type_five f.q) refl f.is
 
-pub no_three_types : (types : ℕ → ℕ → TypeFound) → types 4 0 ≡ NoType (type_five 0) → TypesAsFour types → ⊥
-no_three_types types e all = absurd (let z : Is Communication ≡ NoType (type_five 0) = sym (all 4 0 (λ k. omega arith)) ∙ e in let k : ◌≡◌ {A = ℕ} 0 1 = cc in omega arith)
+pub no_three_types : (types : ℕ → ℕ → Result DssType Refused) → types 4 0 ≡ Err (type_five 0) → TypesAsFour types → ⊥
+no_three_types types e all = absurd (let z : Ok Communication ≡ Err (type_five 0) = sym (all 4 0 (λ k. omega arith)) ∙ e in let k : ◌≡◌ {A = ℕ} 0 1 = cc in omega arith)

@@ -1,5 +1,6 @@
 -- W-205, "Station lists of 65,526 bytes then swallow the next frame": a run of such a frame, a short one, such a frame spoilt, and a
 -- short one. The premises of demand 3 are met, and what salvage and the reader make of it, by computation at the real sizes.
+use Rattle.std.specs.Prelude.{Result, Ok}
 use Prim.Native.Nat.{ℕ, ◌≤◌}
 use native.Mathlib.Omega.{arith}
 use mathlib.Core.Path.{◌≡◌, refl, ap, ap₂, ◌∙◌}
@@ -19,8 +20,6 @@ use Rattle.dss_frame.specs.Frames.{refused_all, all_frames, frames_fuel}
 use Rattle.dss_frame.specs.Salvage.{salvaged, salvage_fuel}
 use Rattle.dss_frame.specs.Written.{written, chunks, chunks_fuel}
 use Rattle.dss_salvage.specs.declared.SalvageEntry.{SalvageEntry}
-use Rattle.dss_salvage.specs.declared.Salvaged.{Salvaged}
-use Rattle.dss_salvage.specs.declared.Salvaged.TheVariants.{Done}
 use Rattle.gateway_words.specs.AnswerWords.{done_words}
 use Rattle.gateway_salvage.specs.SalvageWords.{SalvagesInWords}
 use Rattle.demands.specs.Demands.{Spoilt, Item, good, spoilt, run, AllDue}
@@ -29,6 +28,9 @@ use Rattle.demands.specs.KeptLists.{all_bytes}
 use Rattle.demands.proofs.SalvageKeeps.{answered}
 use Rattle.demands.proofs.KeptRows.{recovers_words}
 use Rattle.demands.proofs.SeveralRun.{sized, sendable, agree, small}
+use Rattle.answer.specs.declared.Refused.{Refused}
+use Rattle.dss_salvage.specs.declared.Salvaging.{Salvaging}
+use Rattle.dss_salvage.specs.inner.SalvageMeasure.{counted}
 
 -- ---- the spoilt one
 
@@ -101,8 +103,8 @@ unfolding fulls run all_bytes stations small lost_item sized lost written chunks
 sizes = (refl, refl, refl)
 
 -- with a room of 65,528 bytes and a row of four, whatever its contract allows answers 0
-pub fulls_answered : (room : List ℕ) (row : List SalvageEntry) → 65528 ≤ length room → 4 ≤ length row → (r : Salvaged) (roomAfter : List ℕ) (rowAfter : List SalvageEntry)
-    → SalvagesRun (run fulls) room row r roomAfter rowAfter → r ≡ Done 4 65528 131082
+pub fulls_answered : (room : List ℕ) (row : List SalvageEntry) → 65528 ≤ length room → 4 ≤ length row → (r : Result Salvaging Refused) (roomAfter : List ℕ) (rowAfter : List SalvageEntry)
+    → SalvagesRun (run fulls) room row r roomAfter rowAfter → r ≡ Ok (counted 4 65528 131082)
 fulls_answered = answered fulls 4 65528 131082 sizes
 
 -- and so does the exported function, lent as many words as four records and an answer have

@@ -4,6 +4,7 @@
 -- ReaderKeeps (`AllBack`) and in SalvageKeeps (`Recovered`); examples that meet what they ask, in KeptExamples and SeveralRun. Of the
 -- calls that write, the widest is taken: the contracts of the writer's others are the same record, at a type and flags of their own.
 -- What document 02's W-201 and W-208 say stands in KeptRequests.
+use Rattle.std.specs.Prelude.{Result, Ok, Err}
 use Prim.Native.Nat.{ℕ, ◌*◌, ◌%◌, ◌≤◌}
 use mathlib.Core.Path.{◌≡◌, refl, subst}
 use mathlib.Core.Logic.{◌⊎◌}
@@ -24,10 +25,6 @@ use Rattle.answer.specs.Numbers.{number_of}
 use Rattle.answer.specs.declared.Refused.{Refused}
 use Rattle.dss_head.specs.Heads.{type_at, head_at, bit}
 use Rattle.dss_head.specs.declared.DssType.{DssType}
-use Rattle.dss_head.specs.declared.TypeFound.{TypeFound}
-use Rattle.dss_head.specs.declared.TypeFound.TheVariants.{Is}
-use Rattle.dss_head.specs.declared.HeadFound.{HeadFound}
-use Rattle.dss_head.specs.declared.HeadFound.TheVariants.{Refused as NoHead}
 use Rattle.dss_head.proofs.DssType.from_byte.Reads as from_byte
 use Rattle.dss_head.proofs.DssHeader.parse.Reads as parse
 use Rattle.dss_frame.specs.Written.{Sent, written}
@@ -38,25 +35,16 @@ use Rattle.dss_frame.specs.Salvage.{salvaged}
 use Rattle.dss_frame.specs.declared.DssFrame.{DssFrame}
 use Rattle.dss_frame.specs.declared.Rules.{Rules}
 use Rattle.dss_frame.specs.declared.Rules.TheVariants.{Reader, Salvage}
-use Rattle.dss_measure.specs.declared.Measured.TheVariants.{Refused as NotMeasured}
 use Rattle.dss_take.proofs.take.Reads as take_frame
 use Rattle.dss_writer.specs.Writer.{sent}
 use Rattle.dss_writer.specs.declared.DssWriter.{DssWriter}
-use Rattle.dss_writer.specs.declared.Wrote.{Wrote}
-use Rattle.dss_writer.specs.declared.Wrote.TheVariants.{Done, Refused as NotWritten}
 use Rattle.dss_writer.proofs.DssWriter.write_dss_full.Reads as write_dss_full
 use Rattle.dss_reader.specs.Reader.{stands_at, left_at, frame_end, is_end}
 use Rattle.dss_reader.specs.declared.DssReader.{DssReader}
-use Rattle.dss_reader.specs.declared.FrameRead.{FrameRead}
-use Rattle.dss_reader.specs.declared.FrameRead.TheVariants.{Frame as Hands, Refused as NotRead}
-use Rattle.dss_reader.specs.declared.FramesRead.{FramesRead}
-use Rattle.dss_reader.specs.declared.FramesRead.TheVariants.{Refused as NoneRead}
 use Rattle.dss_reader.proofs.DssReader.has_complete_frame.Reads as has_complete_frame
 use Rattle.dss_reader.proofs.DssReader.next_frame.Reads as next_frame
 use Rattle.dss_reader.specs.contracts.DssReader.read_all_frames as read_all_frames
 use Rattle.dss_salvage.specs.declared.SalvageEntry.{SalvageEntry}
-use Rattle.dss_salvage.specs.declared.Salvaged.{Salvaged}
-use Rattle.dss_salvage.specs.declared.Salvaged.TheVariants.{Refused as NotSalvaged}
 use Rattle.dss_salvage_call.specs.contracts.salvage as salvage
 use Rattle.gateway_writer.specs.WriterWords.{writer_of, frame_of}
 use Rattle.gateway_writer.proofs.lattrugone_write_dss_full.Reads as lattrugone_write_dss_full
@@ -104,37 +92,40 @@ use Rattle.demands.proofs.KeptLayouts.{laid_in_words, structure_back, full_last}
 use Rattle.demands.proofs.KeptRows.{frames_back_words, recovers_words}
 use Rattle.demands.proofs.MeasureTake.{takes_kept}
 use Rattle.demands.proofs.KeptRefusals.{writes_kept, reads_kept, all_kept, sends_kept, frame_kept, taken_kept, frames_kept, salvage_kept}
+use Rattle.dss_head.specs.declared.DssHeader.{DssHeader}
+use Rattle.dss_reader.specs.declared.FramesRead.{FramesRead}
+use Rattle.dss_salvage.specs.declared.Salvaging.{Salvaging}
 
 -- ---- Demand 1: "A refusal has a number and a place, and leaves all lent buffers unchanged; where it leaves the reading position is fixed
 -- too." That a call ends and does nothing undefined is what the toolchain proves of every function.
 
 module _ (κs : Lfts 2) (room : MutBor (List ℕ)) (why : Refused) (after : List ℕ) where
   pub write_refused : (w : DssWriter) (t : DssType) (chained same : Bool) (payload : Bor (List ℕ))
-      → write_dss_full.Post κs (w, (t, (chained, (same, (payload, (room, tt)))))) (NotWritten why) (w, (t, (chained, (same, (payload, (at_last room after, tt))))))
+      → write_dss_full.Post κs (w, (t, (chained, (same, (payload, (room, tt)))))) (Err why) (w, (t, (chained, (same, (payload, (at_last room after, tt))))))
       → after ≡ room.now
   write_refused w t chained same payload p = writes_kept w (sent w.correlation_id t chained same payload.now) room.now why after p
 
   -- the reader is left at the refusal's place, but with 16 where it was
   pub read_refused : (reader left : DssReader) (s : Bor (List ℕ))
-      → next_frame.Post κs (reader, (s, (room, tt))) (NotRead why left) (reader, (s, (at_last room after, tt)))
+      → next_frame.Post κs (reader, (s, (room, tt))) (Err why, left) (reader, (s, (at_last room after, tt)))
       → (after ≡ room.now) × (left ≡ left_at reader.position why)
   read_refused reader left s p = reads_kept s.now reader.position room.now why left after p
 
   pub take_refused : (rules : Rules) (s : Bor (List ℕ)) (at : ℕ)
-      → take_frame.Post κs (rules, (s, (at, (room, tt)))) (NotMeasured why) (rules, (s, (at, (at_last room after, tt))))
+      → take_frame.Post κs (rules, (s, (at, (room, tt)))) (Err why) (rules, (s, (at, (at_last room after, tt))))
       → after ≡ room.now
   take_refused rules s at p = takes_kept rules s.now at room.now why after p
 
 -- A function over a row of records is named by its own clause: in any model of the logic it entails the fact.
 module _ {M : Type 1} {𝓤 : Ura M} (𝓛 : Logic 𝓤) (mem : Memory → SProp 𝓤) (routines : Routine → Fun 𝓤) (κs : Lfts 3) (s : Bor (List ℕ)) (room : MutBor (List ℕ)) (why : Refused) (room_after : List ℕ) where
   pub all_read_refused : (row : MutBor (List DssFrame)) (reader left : DssReader) (row_after : List DssFrame)
-      → ent 𝓤 ((read_all_frames.clauses 𝓛 mem routines κs (reader, (s, (room, (row, tt))))).ensures tt (NoneRead why left) (reader, (s, (at_last room room_after, (at_last row row_after, tt)))))
+      → ent 𝓤 ((read_all_frames.clauses 𝓛 mem routines κs (reader, (s, (room, (row, tt))))).ensures tt (Err why, left) (reader, (s, (at_last room room_after, (at_last row row_after, tt)))))
       (fact 𝓤 ((room_after ≡ room.now) × (row_after ≡ row.now) × (left ≡ stands_at why.place)))
   all_read_refused row reader left row_after = fact_mono 𝓤 _ _ (λ p. all_kept s.now reader.position room.now why left row.now room_after row_after p)
 
   -- "the one refusal of the call is 9"
   pub salvage_refused : (row : MutBor (List SalvageEntry)) (row_after : List SalvageEntry)
-      → ent 𝓤 ((salvage.clauses 𝓛 mem routines κs (s, (room, (row, tt)))).ensures tt (NotSalvaged why) (s, (at_last room room_after, (at_last row row_after, tt))))
+      → ent 𝓤 ((salvage.clauses 𝓛 mem routines κs (s, (room, (row, tt)))).ensures tt (Err why) (s, (at_last room room_after, (at_last row row_after, tt))))
       (fact 𝓤 ((number_of why.why ≡ 9) × (why.place ≡ 0) × (room_after ≡ room.now) × (row_after ≡ row.now)))
   salvage_refused row row_after = salvage_refuses 𝓛 mem routines κs s room row room_after row_after why
 
@@ -169,7 +160,7 @@ module _ (words : MutBor (List ℕ)) (number : ℕ) (answer : List ℕ) (other :
 
 -- ---- Demand 2, one frame
 
-module _ (κs κs' : Lfts 2) (w : DssWriter) (t : DssType) (chained same : Bool) (payload : Bor (List ℕ)) (room : MutBor (List ℕ)) (wrote : Wrote) (laid : List ℕ) (lent : Bor (List ℕ)) (into : MutBor (List ℕ)) (r : FrameRead) (after : List ℕ) where
+module _ (κs κs' : Lfts 2) (w : DssWriter) (t : DssType) (chained same : Bool) (payload : Bor (List ℕ)) (room : MutBor (List ℕ)) (wrote : Result DssWriter Refused) (laid : List ℕ) (lent : Bor (List ℕ)) (into : MutBor (List ℕ)) (r : Result DssFrame Refused × DssReader) (after : List ℕ) where
   abbrev asked : Sent
   asked = asked_of w t chained same payload
 
@@ -200,7 +191,7 @@ module _ (κs κs' : Lfts 3) (id fill type flags : ℕ) (t : DssType) (payload :
 
 -- ---- Demand 2, all frames of a run of written frames that stand by themselves, from its first byte on, with enough room and row
 
-pub all_read_back : {M : Type 1} {𝓤 : Ura M} (𝓛 : Logic 𝓤) (mem : Memory → SProp 𝓤) (routines : Routine → Fun 𝓤) (κs : Lfts 3) (run : Bor (List ℕ)) (room : MutBor (List ℕ)) (row : MutBor (List DssFrame)) (r : FramesRead) (room_after : List ℕ) (row_after : List DssFrame)
+pub all_read_back : {M : Type 1} {𝓤 : Ura M} (𝓛 : Logic 𝓤) (mem : Memory → SProp 𝓤) (routines : Routine → Fun 𝓤) (κs : Lfts 3) (run : Bor (List ℕ)) (room : MutBor (List ℕ)) (row : MutBor (List DssFrame)) (r : Result FramesRead Refused × DssReader) (room_after : List ℕ) (row_after : List DssFrame)
     → (fs : List Sent) → AllAlone fs → run.now ≡ joined written fs → length (payloads fs) ≤ length room.now → length fs ≤ length row.now
     → ent 𝓤 ((read_all_frames.clauses 𝓛 mem routines κs (stands_at 0, (run, (room, (row, tt))))).ensures tt r (stands_at 0, (run, (at_last room room_after, (at_last row row_after, tt)))))
     (fact 𝓤 (AllBack fs room.now row.now r room_after row_after))
@@ -238,21 +229,21 @@ layout_fixed = layout_fixes
 -- What a call laid down between its two fill marks has the layout of what was asked for, where the volume allows that.
 pub laid_out : (κs : Lfts 2) (w d : DssWriter) (t : DssType) (chained same : Bool) (payload : Bor (List ℕ)) (room : MutBor (List ℕ)) (laid : List ℕ)
     → Allowed (structure_of (sent w.correlation_id t chained same payload.now))
-    → write_dss_full.Post κs (w, (t, (chained, (same, (payload, (room, tt)))))) (Done d) (w, (t, (chained, (same, (payload, (at_last room laid, tt))))))
+    → write_dss_full.Post κs (w, (t, (chained, (same, (payload, (room, tt)))))) (Ok d) (w, (t, (chained, (same, (payload, (at_last room laid, tt))))))
     → Dss (structure_of (sent w.correlation_id t chained same payload.now)) (part laid w.fill d.fill)
 laid_out κs w d t chained same payload room laid a p = write_dss_laid κs w d t chained same payload room laid a p
 
 -- Bytes with a structure's layout are read as the structure, from their first on; with a full last chunk it is 1.
-module _ (κs : Lfts 2) (b : Bor (List ℕ)) (room : MutBor (List ℕ)) (r : FrameRead) (after : List ℕ) (w : Structure) (l : Dss w b.now) (p : next_frame.Post κs (stands_at 0, (b, (room, tt))) r (stands_at 0, (b, (at_last room after, tt)))) where
+module _ (κs : Lfts 2) (b : Bor (List ℕ)) (room : MutBor (List ℕ)) (r : Result DssFrame Refused × DssReader) (after : List ℕ) (w : Structure) (l : Dss w b.now) (p : next_frame.Post κs (stands_at 0, (b, (room, tt))) r (stands_at 0, (b, (at_last room after, tt)))) where
   pub laid_read : (FullLast l → ⊥) → length w.payload ≤ length room.now → StructureBack w b.now room.now r after
   laid_read n h = next_frame_laid κs (stands_at 0) b room r after w l refl n h p
 
-  pub laid_not_whole : FullLast l → (r ≡ NotRead (not_yet 0) (stands_at 0)) × (after ≡ room.now)
+  pub laid_not_whole : FullLast l → (r ≡ (Err (not_yet 0), stands_at 0)) × (after ≡ room.now)
   laid_not_whole n = layout_not_whole w b.now l room.now r after p n
 
 -- The same of the exported functions, lent eight words.
 pub exported_laid_out : (κs : Lfts 3) (id fill type flags : ℕ) (t : DssType) (payload : Bor (List ℕ)) (room words : MutBor (List ℕ)) (laid answer : List ℕ)
-    → type_at type 0 ≡ Is t → Allowed (structure_of (sent id t (bit 0x40 flags) (bit 0x10 flags) payload.now)) → answer_len ≤ length words.now
+    → type_at type 0 ≡ Ok t → Allowed (structure_of (sent id t (bit 0x40 flags) (bit 0x10 flags) payload.now)) → answer_len ≤ length words.now
     → lattrugone_write_dss_full.Post κs (id, (fill, (type, (flags, (payload, (room, (words, tt))))))) 0 (id, (fill, (type, (flags, (payload, (at_last room laid, (at_last words answer, tt)))))))
     → LaidInWords (structure_of (sent id t (bit 0x40 flags) (bit 0x10 flags) payload.now)) fill answer laid
 exported_laid_out κs id fill type flags t payload room words laid answer typed a k p =
@@ -282,13 +273,13 @@ pub all_read_as_rust : AllAsFour all_frames
 all_read_as_rust = all_as_four
 
 -- so of the calls
-pub type_as_rust : (κs : Lfts 0) (b : ℕ) (r : TypeFound) → (b % 16 ≡ 5 → ⊥) → from_byte.Post κs (b, tt) r (b, tt) → r ≡ four_types b 0
+pub type_as_rust : (κs : Lfts 0) (b : ℕ) (r : Result DssType Refused) → (b % 16 ≡ 5 → ⊥) → from_byte.Post κs (b, tt) r (b, tt) → r ≡ four_types b 0
 type_as_rust κs b r h p = from_byte_four κs b r h p
 
-pub head_as_rust : (κs : Lfts 1) (bytes : Bor (List ℕ)) (r : HeadFound) → parse.Post κs (bytes, tt) r (bytes, tt) → SameOrFive bytes.now NoHead r (four_heads bytes.now 0)
+pub head_as_rust : (κs : Lfts 1) (bytes : Bor (List ℕ)) (r : Result DssHeader Refused) → parse.Post κs (bytes, tt) r (bytes, tt) → SameOrFive bytes.now Err r (four_heads bytes.now 0)
 head_as_rust κs bytes r p = parse_four κs bytes r p
 
-pub next_frame_as_rust : (κs : Lfts 2) (reader : DssReader) (s : Bor (List ℕ)) (room : MutBor (List ℕ)) (r : FrameRead) (after : List ℕ)
+pub next_frame_as_rust : (κs : Lfts 2) (reader : DssReader) (s : Bor (List ℕ)) (room : MutBor (List ℕ)) (r : Result DssFrame Refused × DssReader) (after : List ℕ)
     → next_frame.Post κs (reader, (s, (room, tt))) r (reader, (s, (at_last room after, tt)))
     → AnsweredAs s.now reader.position room.now (read_by four_heads s.now reader.position) r after
     ⊎ FiveRefused s.now refused (read_by four_heads s.now reader.position)
@@ -317,12 +308,12 @@ pub waiting_loses_nothing : WaitingLosesNothing (read_at Reader)
 waiting_loses_nothing = reader_loses_nothing
 
 -- so of the calls: the first, made again over a run with more bytes and a room with the same ones, has the same answer and room
-pub taken_again : (κs κs' : Lfts 2) (κs'' : Lfts 1) (reader next : DssReader) (s longer : Bor (List ℕ)) (room again : MutBor (List ℕ)) (more : List ℕ) (d : DssFrame) (r : FrameRead) (after after' : List ℕ)
+pub taken_again : (κs κs' : Lfts 2) (κs'' : Lfts 1) (reader next : DssReader) (s longer : Bor (List ℕ)) (room again : MutBor (List ℕ)) (more : List ℕ) (d : DssFrame) (r : Result DssFrame Refused × DssReader) (after after' : List ℕ)
     → longer.now ≡ s.now ++ more → again.now ≡ room.now
-    → next_frame.Post κs (reader, (s, (room, tt))) (Hands d next) (reader, (s, (at_last room after, tt)))
+    → next_frame.Post κs (reader, (s, (room, tt))) (Ok d, next) (reader, (s, (at_last room after, tt)))
     → has_complete_frame.Post κs'' (next, (s, tt)) true (next, (s, tt))
     → next_frame.Post κs' (reader, (longer, (again, tt))) r (reader, (longer, (at_last again after', tt)))
-    → (r ≡ Hands d next) × (after' ≡ after)
+    → (r ≡ (Ok d, next)) × (after' ≡ after)
 taken_again κs κs' κs'' reader next s longer room again more d r after after' e k a c b =
     calls_same κs κs' κs'' reader next s longer room again more d r after after' e k a c b
 
@@ -363,11 +354,11 @@ waiting_stops = stops_waiting Reader
 
 -- so of the calls: after 16 the reader stands where it stood, and the call made again over a run with more bytes, into any room, is
 -- refused alike and leaves that room as it is
-pub dead_again : (κs κs' : Lfts 2) (reader left : DssReader) (s longer : Bor (List ℕ)) (room again : MutBor (List ℕ)) (more : List ℕ) (why : Refused) (r : FrameRead) (after after' : List ℕ)
+pub dead_again : (κs κs' : Lfts 2) (reader left : DssReader) (s longer : Bor (List ℕ)) (room again : MutBor (List ℕ)) (more : List ℕ) (why : Refused) (r : Result DssFrame Refused × DssReader) (after after' : List ℕ)
     → longer.now ≡ s.now ++ more → number_of why.why ≡ 16
-    → next_frame.Post κs (reader, (s, (room, tt))) (NotRead why left) (reader, (s, (at_last room after, tt)))
+    → next_frame.Post κs (reader, (s, (room, tt))) (Err why, left) (reader, (s, (at_last room after, tt)))
     → next_frame.Post κs' (reader, (longer, (again, tt))) r (reader, (longer, (at_last again after', tt)))
-    → (left ≡ stands_at reader.position) × (r ≡ NotRead why left) × (after' ≡ again.now)
+    → (left ≡ stands_at reader.position) × (r ≡ (Err why, left)) × (after' ≡ again.now)
 dead_again κs κs' reader left s longer room again more why r after after' e k a b = calls_dead κs κs' reader left s longer room again more why r after after' e k a b
 
 -- and of the exported function, lent eight words
@@ -390,7 +381,7 @@ exported_dead_again κs κs' at s longer room again words words' more after answ
 pub spoilt_told : RefusesSpoilt head_at
 spoilt_told = refuses_spoilt
 
-pub salvaged_back : {M : Type 1} {𝓤 : Ura M} (𝓛 : Logic 𝓤) (mem : Memory → SProp 𝓤) (routines : Routine → Fun 𝓤) (κs : Lfts 3) (s : Bor (List ℕ)) (room : MutBor (List ℕ)) (row : MutBor (List SalvageEntry)) (r : Salvaged) (room_after : List ℕ) (row_after : List SalvageEntry)
+pub salvaged_back : {M : Type 1} {𝓤 : Ura M} (𝓛 : Logic 𝓤) (mem : Memory → SProp 𝓤) (routines : Routine → Fun 𝓤) (κs : Lfts 3) (s : Bor (List ℕ)) (room : MutBor (List ℕ)) (row : MutBor (List SalvageEntry)) (r : Result Salvaging Refused) (room_after : List ℕ) (row_after : List SalvageEntry)
     → (items : List (Item written)) → s.now ≡ run items → length (all_bytes items) ≤ length room.now → length items ≤ length row.now
     → ent 𝓤 ((salvage.clauses 𝓛 mem routines κs (s, (room, (row, tt)))).ensures tt r (s, (at_last room room_after, (at_last row row_after, tt))))
     (fact 𝓤 (Recovered items room.now row.now r room_after row_after))

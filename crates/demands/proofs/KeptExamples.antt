@@ -1,4 +1,5 @@
 -- Examples that meet what the lines of Kept ask, by computation: what each contract allows in them, byte by byte and word by word.
+use Rattle.std.specs.Prelude.{Result, Ok, Err}
 use Prim.Native.Nat.{ℕ, ◌+◌, ◌≤◌}
 use native.Mathlib.Omega.{arith}
 use mathlib.Core.Path.{◌≡◌, refl, sym, ap, ap₂, subst, ◌∙◌}
@@ -25,13 +26,7 @@ use Rattle.dss_frame.specs.declared.Rules.TheVariants.{Reader}
 use Rattle.dss_take.specs.Take.{room_read}
 use Rattle.dss_writer.specs.Writer.{fresh_writer, sent, wrote}
 use Rattle.dss_writer.specs.declared.DssWriter.{DssWriter}
-use Rattle.dss_writer.specs.declared.Wrote.{Wrote}
-use Rattle.dss_writer.specs.declared.Wrote.TheVariants.{Done}
 use Rattle.dss_reader.specs.Reader.{stands_at, given_frame, frame_end, ReadAllFrames}
-use Rattle.dss_reader.specs.declared.FrameRead.{FrameRead}
-use Rattle.dss_reader.specs.declared.FrameRead.TheVariants.{Frame as Hands, Refused as NotRead}
-use Rattle.dss_reader.specs.declared.FramesRead.{FramesRead}
-use Rattle.dss_reader.specs.declared.FramesRead.TheVariants.{Frames}
 use Rattle.dss_salvage.specs.SalvageEntries.{salvaged_bytes, salvaged_row}
 use Rattle.gateway_words.specs.AnswerWords.{Answered}
 use Rattle.gateway_writer.specs.WriterWords.{wrote_words}
@@ -54,6 +49,10 @@ use Rattle.demands.proofs.WrittenLayout.{allowed_sent}
 use Rattle.demands.proofs.LayoutExamples as layouts
 use Rattle.demands.specs.KeptCalls.{Calls, ExportedCalls}
 use Rattle.demands.proofs.Kept.{write_refused, read_refused, read_back, not_whole_lem, exported_read_back, exported_not_whole, exported_all_read_back, exported_salvaged_back, exported_write_refused, exported_read_refused, exported_all_read_refused, exported_salvage_refused, laid_out, laid_read, laid_not_whole, exported_laid_out, exported_laid_read, exported_laid_not_whole, taken_again, exported_taken_again}
+use Rattle.dss_reader.specs.declared.DssReader.{DssReader}
+use Rattle.dss_reader.specs.declared.FramesRead.{FramesRead}
+use Rattle.answer.specs.declared.Refused.{Refused}
+use Rattle.dss_reader.specs.Reader.{frames_read}
 
 -- bytes that are lent
 abbrev pub lending : List ℕ → Bor (List ℕ)
@@ -90,8 +89,8 @@ handed = record {
 }
 
 small_calls : (κs κs' : Lfts 2)
-    → Calls κs κs' at_two Request true true (lending (0xAA ∷ [])) (lending_room (replicate 11 9)) (Done (record { correlation_id = 7; fill = 9 })) (filled Request)
-    (lending (take 9 (filled Request))) (lending_room (8 ∷ 8 ∷ [])) (Hands handed (stands_at 9)) (0xAA ∷ 8 ∷ [])
+    → Calls κs κs' at_two Request true true (lending (0xAA ∷ [])) (lending_room (replicate 11 9)) (Ok (record { correlation_id = 7; fill = 9 })) (filled Request)
+    (lending (take 9 (filled Request))) (lending_room (8 ∷ 8 ∷ [])) (Ok handed, stands_at 9) (0xAA ∷ 8 ∷ [])
 unfolding written chunks chunks_fuel splice laid read_at absorb absorb_fuel look payload_of end_of frame_walk continuations walk_fuel
 small_calls κs κs' =
     record {
@@ -103,10 +102,10 @@ small_calls κs κs' =
     }
 
 -- so it comes back
-pub small_back : (κs κs' : Lfts 2) → ReadAgain at_two (small Request) (Done (record { correlation_id = 7; fill = 9 })) (8 ∷ 8 ∷ []) (Hands handed (stands_at 9)) (0xAA ∷ 8 ∷ [])
+pub small_back : (κs κs' : Lfts 2) → ReadAgain at_two (small Request) (Ok (record { correlation_id = 7; fill = 9 })) (8 ∷ 8 ∷ []) (Ok handed, stands_at 9) (0xAA ∷ 8 ∷ [])
 small_back κs κs' =
-    read_back κs κs' at_two Request true true (lending (0xAA ∷ [])) (lending_room (replicate 11 9)) (Done (record { correlation_id = 7; fill = 9 })) (filled Request)
-    (lending (take 9 (filled Request))) (lending_room (8 ∷ 8 ∷ [])) (Hands handed (stands_at 9)) (0xAA ∷ 8 ∷ []) (small_calls κs κs') (λ u. omega (arith, u.size)) (omega arith)
+    read_back κs κs' at_two Request true true (lending (0xAA ∷ [])) (lending_room (replicate 11 9)) (Ok (record { correlation_id = 7; fill = 9 })) (filled Request)
+    (lending (take 9 (filled Request))) (lending_room (8 ∷ 8 ∷ [])) (Ok handed, stands_at 9) (0xAA ∷ 8 ∷ []) (small_calls κs κs') (λ u. omega (arith, u.size)) (omega arith)
 
 -- the exported functions: type 5, flags 50; correlation and fill mark; then position, length, format byte, correlation, payload's length,
 -- segments and its first byte
@@ -165,13 +164,13 @@ full_lent = refl
 full_read : read_at Reader (written full) 0 ≡ refused (not_yet 0)
 full_read = ReadBack.not_whole_lem full full_sendable full_unreadable
 
-full_wrote : wrote (fresh_writer 7) (length zeros) (length (written full)) ≡ Done (record { correlation_id = 7; fill = 65534 })
+full_wrote : wrote (fresh_writer 7) (length zeros) (length (written full)) ≡ Ok (record { correlation_id = 7; fill = 65534 })
 unfolding written chunks chunks_fuel
 full_wrote = refl
 
 full_calls : (κs κs' : Lfts 2)
-    → Calls κs κs' (fresh_writer 7) Request false false (lending big) (lending_room zeros) (Done (record { correlation_id = 7; fill = 65534 })) (written full)
-    (lending (written full)) (lending_room []) (NotRead (not_yet 0) (stands_at 0)) []
+    → Calls κs κs' (fresh_writer 7) Request false false (lending big) (lending_room zeros) (Ok (record { correlation_id = 7; fill = 65534 })) (written full)
+    (lending (written full)) (lending_room []) (Err (not_yet 0), stands_at 0) []
 full_calls κs κs' =
     record {
       sendable = full_sendable;
@@ -181,10 +180,10 @@ full_calls κs κs' =
       reads = record { answers = sym (ap (given_frame (written full) 0 0) full_read); room_is = sym (ap (room_read (written full) []) full_read) };
     }
 
-pub full_not_whole : (κs κs' : Lfts 2) → NotReadAgain (fresh_writer 7) full (Done (record { correlation_id = 7; fill = 65534 })) [] (NotRead (not_yet 0) (stands_at 0)) []
+pub full_not_whole : (κs κs' : Lfts 2) → NotReadAgain (fresh_writer 7) full (Ok (record { correlation_id = 7; fill = 65534 })) [] (Err (not_yet 0), stands_at 0) []
 full_not_whole κs κs' =
-    not_whole_lem κs κs' (fresh_writer 7) Request false false (lending big) (lending_room zeros) (Done (record { correlation_id = 7; fill = 65534 })) (written full)
-    (lending (written full)) (lending_room []) (NotRead (not_yet 0) (stands_at 0)) [] (full_calls κs κs') full_unreadable
+    not_whole_lem κs κs' (fresh_writer 7) Request false false (lending big) (lending_room zeros) (Ok (record { correlation_id = 7; fill = 65534 })) (written full)
+    (lending (written full)) (lending_room []) (Err (not_yet 0), stands_at 0) [] (full_calls κs κs') full_unreadable
 
 -- the exported functions: the writer answers 0, and the reader 1
 full_exported : (κs κs' : Lfts 3)
@@ -200,7 +199,7 @@ full_exported κs κs' =
       eight' = omega arith;
       writes = record {
         answers =
-            subst (λ (x : Wrote). Answered (wrote_words x) (replicate 8 9) 0 (0 ∷ 0 ∷ 7 ∷ 65534 ∷ 0 ∷ 0 ∷ 0 ∷ 0 ∷ [])) (sym full_wrote)
+            subst (λ (x : Result DssWriter Refused). Answered (wrote_words x) (replicate 8 9) 0 (0 ∷ 0 ∷ 7 ∷ 65534 ∷ 0 ∷ 0 ∷ 0 ∷ 0 ∷ [])) (sym full_wrote)
             (record { number_is = refl; words_are = refl });
         room_is = sym full_laid;
       };
@@ -265,11 +264,11 @@ three_in_words κs =
     three refl (omega (arith, three_sizes)) (omega (arith, three_sizes)) (omega arith) (three_calls κs)
 
 -- with any room of six bytes and any row of two records, whatever the contract of `read_all_frames` allows on the two frames answers so
-pub pair_answered : (room : List ℕ) (row : List DssFrame) → 6 ≤ length room → 2 ≤ length row → (r : FramesRead) (room_after : List ℕ) (row_after : List DssFrame)
-    → ReadAllFrames (joined written (pair false)) 0 room row r room_after row_after → r ≡ Frames 2 6 (stands_at (length (joined written (pair false))))
+pub pair_answered : (room : List ℕ) (row : List DssFrame) → 6 ≤ length room → 2 ≤ length row → (r : Result FramesRead Refused × DssReader) (room_after : List ℕ) (row_after : List DssFrame)
+    → ReadAllFrames (joined written (pair false)) 0 room row r room_after row_after → r ≡ (Ok (frames_read 2 6), stands_at (length (joined written (pair false))))
 pair_answered room row h k r room_after row_after p =
     (frames_back (pair false) (pair_alone false) room row (omega (arith, pair_sizes)) (omega (arith, pair_sizes)) r room_after row_after p).is
-    ∙ ap₂ (λ (n m : ℕ). Frames n m (stands_at (length (joined written (pair false))))) pair_sizes.1 pair_sizes.0
+    ∙ ap₂ (λ (n m : ℕ). (Ok (frames_read n m), stands_at (length (joined written (pair false))))) pair_sizes.1 pair_sizes.0
 
 -- ---- the volume's layout
 
@@ -295,10 +294,10 @@ asked_frame = record {
   end = 7;
 }
 
-pub asked_back : (κs : Lfts 2) → StructureBack (layouts.asking true) layouts.asked (8 ∷ 8 ∷ []) (Hands asked_frame (stands_at 7)) (0xC1 ∷ 8 ∷ [])
+pub asked_back : (κs : Lfts 2) → StructureBack (layouts.asking true) layouts.asked (8 ∷ 8 ∷ []) (Ok asked_frame, stands_at 7) (0xC1 ∷ 8 ∷ [])
 unfolding FullLast layouts.asked_laid splice laid read_at absorb absorb_fuel look payload_of end_of frame_walk continuations walk_fuel
 asked_back κs =
-    laid_read κs (lending layouts.asked) (lending_room (8 ∷ 8 ∷ [])) (Hands asked_frame (stands_at 7)) (0xC1 ∷ 8 ∷ []) (layouts.asking true) layouts.asked_laid
+    laid_read κs (lending layouts.asked) (lending_room (8 ∷ 8 ∷ [])) (Ok asked_frame, stands_at 7) (0xC1 ∷ 8 ∷ []) (layouts.asking true) layouts.asked_laid
     (record { answers = refl; room_is = refl }) (λ k. k) (omega arith)
 
 pub asked_in_words : (κs : Lfts 3) → StructureBackInWords (layouts.asking true) layouts.asked (8 ∷ 8 ∷ []) 0 (0 ∷ 7 ∷ 7 ∷ 0x71 ∷ 0x1234 ∷ 1 ∷ 1 ∷ 0 ∷ []) (0xC1 ∷ 8 ∷ [])
@@ -317,9 +316,9 @@ two_full_cut = layouts.filled 32765 (omega arith)
 two_full_last : FullLast two_full_cut.laid
 two_full_last = two_full_cut.full (omega (arith, layouts.filling_length 32765))
 
-pub two_full_not_whole : (κs : Lfts 2) → (◌≡◌ {A = FrameRead} (NotRead (not_yet 0) (stands_at 0)) (NotRead (not_yet 0) (stands_at 0))) × (◌≡◌ {A = List ℕ} [] [])
+pub two_full_not_whole : (κs : Lfts 2) → (◌≡◌ {A = Result DssFrame Refused × DssReader} (Err (not_yet 0), stands_at 0) (Err (not_yet 0), stands_at 0)) × (◌≡◌ {A = List ℕ} [] [])
 two_full_not_whole κs =
-    laid_not_whole κs (lending two_full) (lending_room []) (NotRead (not_yet 0) (stands_at 0)) [] _ two_full_cut.laid
+    laid_not_whole κs (lending two_full) (lending_room []) (Err (not_yet 0), stands_at 0) [] _ two_full_cut.laid
     (record { answers = sym (ap (given_frame two_full 0 0) layouts.full_waits); room_is = sym (ap (room_read two_full []) layouts.full_waits) }) two_full_last
 
 pub two_full_in_words : (κs : Lfts 3) → RefusedAs (not_yet 0) [] 1 (1 ∷ replicate 7 0) []
@@ -345,10 +344,10 @@ no_reply_frame = record {
   end = 6;
 }
 
-pub no_reply_back : (κs : Lfts 2) → StructureBack layouts.no_reply layouts.unanswered (9 ∷ []) (Hands no_reply_frame (stands_at 6)) (9 ∷ [])
+pub no_reply_back : (κs : Lfts 2) → StructureBack layouts.no_reply layouts.unanswered (9 ∷ []) (Ok no_reply_frame, stands_at 6) (9 ∷ [])
 unfolding FullLast layouts.no_reply_laid splice laid read_at absorb absorb_fuel look payload_of end_of frame_walk continuations walk_fuel
 no_reply_back κs =
-    laid_read κs (lending layouts.unanswered) (lending_room (9 ∷ [])) (Hands no_reply_frame (stands_at 6)) (9 ∷ []) layouts.no_reply layouts.no_reply_laid
+    laid_read κs (lending layouts.unanswered) (lending_room (9 ∷ [])) (Ok no_reply_frame, stands_at 6) (9 ∷ []) layouts.no_reply layouts.no_reply_laid
     (record { answers = refl; room_is = refl }) (λ k. k) (omega arith)
 
 pub no_reply_in_words : (κs : Lfts 3) → StructureBackInWords layouts.no_reply layouts.unanswered (9 ∷ []) 0 (0 ∷ 6 ∷ 6 ∷ 0x05 ∷ 7 ∷ 0 ∷ 1 ∷ 0 ∷ []) (9 ∷ [])
@@ -369,10 +368,10 @@ taken_example = record {
   end = 6;
 }
 
-pub taken_twice : (κs κs' : Lfts 2) (κs'' : Lfts 1) → (◌≡◌ {A = FrameRead} (Hands taken_example (stands_at 6)) (Hands taken_example (stands_at 6))) × (◌≡◌ {A = List ℕ} (9 ∷ []) (9 ∷ []))
+pub taken_twice : (κs κs' : Lfts 2) (κs'' : Lfts 1) → (◌≡◌ {A = Result DssFrame Refused × DssReader} (Ok taken_example, stands_at 6) (Ok taken_example, stands_at 6)) × (◌≡◌ {A = List ℕ} (9 ∷ []) (9 ∷ []))
 unfolding frame_end splice laid read_at absorb absorb_fuel look payload_of end_of frame_walk continuations walk_fuel
 taken_twice κs κs' κs'' =
-    taken_again κs κs' κs'' (stands_at 0) (stands_at 6) (lending (p2 ++ p2)) (lending (p2 ++ p2 ++ p8)) (lending_room (9 ∷ [])) (lending_room (9 ∷ [])) p8 taken_example (Hands taken_example (stands_at 6)) (9 ∷ []) (9 ∷ [])
+    taken_again κs κs' κs'' (stands_at 0) (stands_at 6) (lending (p2 ++ p2)) (lending (p2 ++ p2 ++ p8)) (lending_room (9 ∷ [])) (lending_room (9 ∷ [])) p8 taken_example (Ok taken_example, stands_at 6) (9 ∷ []) (9 ∷ [])
     refl refl (record { answers = refl; room_is = refl }) refl (record { answers = refl; room_is = refl })
 
 -- its words say the position 6, where `has_frame` then answers 1

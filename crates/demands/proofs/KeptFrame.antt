@@ -1,4 +1,5 @@
 -- A frame that was laid into a room from a fill mark on, and read from there again: over the records that the contracts cite.
+use Rattle.std.specs.Prelude.{Result, Ok}
 use Prim.Native.Nat.{ℕ, ◌+◌, ◌-◌, ◌≤◌}
 use native.Mathlib.Omega.{arith}
 use mathlib.Core.Path.{◌≡◌, refl, sym, ap, subst, ◌∙◌}
@@ -11,10 +12,7 @@ use Rattle.wire.proofs.WireLaws.{pick_yes}
 use Rattle.wire.proofs.Places.{here_length}
 use Rattle.wire.proofs.Splicing.{splice_tail, splice_written, laid_fits}
 use Rattle.answer.specs.Rooms.{room_for}
-use Rattle.answer.specs.declared.RoomFor.TheVariants.{Enough}
 use Rattle.dss_head.specs.declared.DssType.{DssType}
-use Rattle.dss_head.specs.declared.TypeFound.{TypeFound}
-use Rattle.dss_head.specs.declared.TypeFound.TheVariants.{Is}
 use Rattle.dss_frame.specs.declared.Rules.TheVariants.{Reader}
 use Rattle.dss_frame.specs.declared.DssFrame.{DssFrame}
 use Rattle.dss_frame.specs.Segments.{payload_of}
@@ -27,10 +25,7 @@ use Rattle.dss_laws.proofs.WritingLaws.{framed_written}
 use Rattle.dss_take.specs.Take.{room_read}
 use Rattle.dss_writer.specs.Writer.{wrote_by, wrote, Writes}
 use Rattle.dss_writer.specs.declared.DssWriter.{DssWriter}
-use Rattle.dss_writer.specs.declared.Wrote.{Wrote}
 use Rattle.dss_reader.specs.Reader.{stands_at, given_frame, NextFrame}
-use Rattle.dss_reader.specs.declared.FrameRead.{FrameRead}
-use Rattle.dss_reader.specs.declared.FrameRead.TheVariants.{Frame as Hands}
 use Rattle.gateway_words.specs.AnswerWords.{refusal_words, done_words, Answered}
 use Rattle.gateway_row.specs.RowWords.{frame_at}
 use Rattle.gateway_row.proofs.RecordBack.{format_says}
@@ -39,6 +34,8 @@ use Rattle.gateway_reader.specs.ReaderWords.{frame_words, ReadsFrame}
 use Rattle.demands.specs.Demands.{Sendable, Unreadable, Gives}
 use Rattle.demands.proofs.WrittenFrames.{framed_six, sent_at, read_written, gives_written}
 use Rattle.demands.specs.KeptMeaning.{IsFrame, InWords, mark_behind, Written, ReadAgain, not_yet, NotReadAgain, ReadAgainInWords, NotReadAgainInWords}
+use Rattle.dss_reader.specs.declared.DssReader.{DssReader}
+use Rattle.answer.specs.declared.Refused.{Refused}
 
 -- ---- a frame that is handed out
 
@@ -59,7 +56,7 @@ in_words f at place last rest d w =
     record {
       number = refl;
       place_is = refl;
-      type = (format_says d.header).0 ∙ ap Is w.type;
+      type = (format_says d.header).0 ∙ ap Ok w.type;
       flags = (format_says d.header).1 ∙ w.flags;
       correlation = w.correlation;
       payload_len = w.payload_len;
@@ -94,11 +91,11 @@ module _ (f : Sent) (v : Sendable f) (s : List ℕ) (p : ℕ) (d : drop p s ≡ 
 
   -- what the reader's call answers, and what its room then holds
   given_last : (Unreadable f → ⊥) → (size : ℕ) → length f.payload ≤ size
-      → given_frame s p size (read_at Reader s p) ≡ Hands (frame_record s p 0 (sent_at f p)) (stands_at (mark_behind p f))
+      → given_frame s p size (read_at Reader s p) ≡ (Ok (frame_record s p 0 (sent_at f p)), stands_at (mark_behind p f))
   given_last u size h =
       ap (given_frame s p size) (read_last u)
       ∙ pick_yes _ _ (le-leb (length (payload_of s (sent_at f p).segments)) size (omega (arith, ap length gives_last.payload)))
-      ∙ ap (λ (n : ℕ). Hands (frame_record s p 0 (sent_at f p)) (stands_at n)) (segments_end (framed_written f) p)
+      ∙ ap (λ (n : ℕ). (Ok (frame_record s p 0 (sent_at f p)), stands_at n)) (segments_end (framed_written f) p)
 
   room_last : (Unreadable f → ⊥) → (room : List ℕ) → length f.payload ≤ length room → room_read s room (read_at Reader s p) ≡ splice room 0 f.payload
   room_last u room h = ap (room_read s room) (read_last u) ∙ ap (laid room 0) gives_last.payload ∙ laid_fits room 0 f.payload (omega arith)
@@ -115,13 +112,13 @@ run_is f fill room laid-down run h e k =
 
 wrote_is : (w : DssWriter) (f : Sent) (size : ℕ) → mark_behind w.fill f ≤ size → Written w f (wrote w size (length (written f)))
 wrote_is w f size h =
-    let enough : room_for w.fill size (length (written f)) ≡ Enough =
+    let enough : room_for w.fill size (length (written f)) ≡ Ok tt =
     pick_yes _ _ (le-leb w.fill size (omega arith)) ∙ pick_yes _ _ (le-leb (length (written f)) (size - w.fill) (omega arith)) in
     ap (wrote_by w (length (written f))) enough
 
 -- ---- in Rattle
 
-module _ (w : DssWriter) (f : Sent) (v : Sendable f) (room laid-down run into : List ℕ) (x : Wrote) (r : FrameRead) (after : List ℕ)
+module _ (w : DssWriter) (f : Sent) (v : Sendable f) (room laid-down run into : List ℕ) (x : Result DssWriter Refused) (r : Result DssFrame Refused × DssReader) (after : List ℕ)
     (h : mark_behind w.fill f ≤ length room) (p : Writes w f room x laid-down) (e : run ≡ take (mark_behind w.fill f) laid-down) (q : NextFrame run w.fill into r after) where
   at_mark : drop w.fill run ≡ written f
   at_mark = run_is f w.fill room laid-down run h p.room_is e
@@ -147,7 +144,7 @@ module _ (w : DssWriter) (f : Sent) (v : Sendable f) (room laid-down run into : 
 
 -- ---- in words
 
-module _ (found : TypeFound) (t : DssType) (ft : found ≡ Is t) (correlation fill : ℕ) (sends : DssType → Sent) (own : (sends t).correlation ≡ correlation) (v : Sendable (sends t))
+module _ (found : Result DssType Refused) (t : DssType) (ft : found ≡ Ok t) (correlation fill : ℕ) (sends : DssType → Sent) (own : (sends t).correlation ≡ correlation) (v : Sendable (sends t))
     (room words laid-down answer run into words' : List ℕ) (n n' : ℕ) (after answer' : List ℕ)
     (h : mark_behind fill (sends t) ≤ length room) (k : 8 ≤ length words) (k' : 8 ≤ length words')
     (p : Sends found (writer_of correlation fill) sends room words n laid-down answer)
@@ -157,11 +154,11 @@ module _ (found : TypeFound) (t : DssType) (ft : found ≡ Is t) (correlation fi
   f = sends t
 
   laid_is : laid-down ≡ laid room fill (written f)
-  laid_is = p.room_is ∙ ap (λ (x : TypeFound). room_typed x (writer_of correlation fill) sends room) ft
+  laid_is = p.room_is ∙ ap (λ (x : Result DssType Refused). room_typed x (writer_of correlation fill) sends room) ft
 
   wrote_words_lem : wrote_words (wrote_typed found (writer_of correlation fill) sends (length room)) ≡ done_words f.correlation (mark_behind fill f) 0 0
   wrote_words_lem =
-      ap (λ (x : TypeFound). wrote_words (wrote_typed x (writer_of correlation fill) sends (length room))) ft
+      ap (λ (x : Result DssType Refused). wrote_words (wrote_typed x (writer_of correlation fill) sends (length room))) ft
       ∙ ap wrote_words (wrote_is (writer_of correlation fill) f (length room) h)
       ∙ ap (λ (c : ℕ). done_words c (mark_behind fill f) 0 0) (sym own)
 
@@ -176,7 +173,7 @@ module _ (found : TypeFound) (t : DssType) (ft : found ≡ Is t) (correlation fi
       let d : DssFrame = frame_record run fill 0 (sent_at f fill) in
       let w : List ℕ = frame_at (mark_behind fill f) fill d in
       let a : Answered w words' n' answer' =
-      subst (λ (x : FrameRead). Answered (frame_words x) words' n' answer') (given_last f v run fill at_mark' u (length into) i) q.answers in
+      subst (λ (x : Result DssFrame Refused × DssReader). Answered (frame_words x) words' n' answer') (given_last f v run fill at_mark' u (length into) i) q.answers in
       record {
         wrote = wrote_answers.number_is;
         wrote_says = answer_says refl k wrote_answers;

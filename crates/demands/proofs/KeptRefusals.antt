@@ -1,4 +1,5 @@
 -- A refusal leaves what was lent as it was: over the records that the contracts cite.
+use Rattle.std.specs.Prelude.{Result, Ok, Err}
 use Prim.Native.Nat.{ℕ, ◌+◌, ◌-◌, ◌<◌}
 use native.Mathlib.Omega.{arith}
 use mathlib.Core.Path.{◌≡◌, refl, sym, ap, ◌∙◌}
@@ -16,10 +17,7 @@ use Rattle.answer.specs.Numbers.{number_of, not_whole}
 use Rattle.answer.specs.Rooms.{no_room, room_for}
 use Rattle.answer.specs.declared.Refusal.{Refusal}
 use Rattle.answer.specs.declared.Refused.{Refused}
-use Rattle.answer.specs.declared.RoomFor.TheVariants.{Enough}
 use Rattle.dss_head.specs.declared.DssType.{DssType}
-use Rattle.dss_head.specs.declared.TypeFound.{TypeFound}
-use Rattle.dss_head.specs.declared.TypeFound.TheVariants.{Is, Refused as NoType}
 use Rattle.dss_frame.specs.Reading.{Frame, read_at}
 use Rattle.dss_frame.specs.Frames.{AllRead, frames, refused_all, all_frames}
 use Rattle.dss_frame.specs.FrameRecords.{payloads_of}
@@ -28,21 +26,11 @@ use Rattle.dss_frame.specs.Written.{Sent, written}
 use Rattle.dss_frame.specs.declared.DssFrame.{DssFrame}
 use Rattle.dss_frame.specs.declared.Rules.{Rules}
 use Rattle.dss_frame.specs.declared.Rules.TheVariants.{Reader}
-use Rattle.dss_measure.specs.declared.Measured.{Measured}
-use Rattle.dss_measure.specs.declared.Measured.TheVariants.{Frame as Taken, Refused as NotTaken}
 use Rattle.dss_take.specs.Take.{taken_of, Takes}
 use Rattle.dss_writer.specs.Writer.{wrote_by, Writes}
 use Rattle.dss_writer.specs.declared.DssWriter.{DssWriter}
-use Rattle.dss_writer.specs.declared.Wrote.{Wrote}
-use Rattle.dss_writer.specs.declared.Wrote.TheVariants.{Done, Refused as NotWritten}
 use Rattle.dss_reader.specs.Reader.{stands_at, left_at, given_frame, NextFrame, frames_fit, given_frames, room_all, row_all, ReadAllFrames}
 use Rattle.dss_reader.specs.declared.DssReader.{DssReader}
-use Rattle.dss_reader.specs.declared.FrameRead.{FrameRead}
-use Rattle.dss_reader.specs.declared.FrameRead.TheVariants.{Frame as Hands, Refused as NotRead}
-use Rattle.dss_reader.specs.declared.FramesRead.{FramesRead}
-use Rattle.dss_reader.specs.declared.FramesRead.TheVariants.{Frames, Refused as NoneRead}
-use Rattle.dss_salvage.specs.declared.Salvaged.{Salvaged}
-use Rattle.dss_salvage.specs.declared.Salvaged.TheVariants.{Done as Gathered, Refused as NotSalvaged}
 use Rattle.gateway_words.specs.AnswerWords.{refusal_words, Answered}
 use Rattle.gateway_row.specs.RowWords.{places}
 use Rattle.gateway_writer.specs.WriterWords.{wrote_words, wrote_typed, room_typed, Sends}
@@ -55,20 +43,25 @@ use Rattle.demands.proofs.LongerAll.{all_final}
 use Rattle.demands.specs.KeptMeaning.{RefusedInWords}
 use Rattle.demands.proofs.KeptFrame.{answer_says}
 use Rattle.demands.proofs.MeasureTake.{takes_kept, next_is_taken}
+use Rattle.dss_measure.specs.declared.FrameMeasure.{FrameMeasure}
+use Rattle.dss_reader.specs.declared.FramesRead.{FramesRead}
+use Rattle.dss_salvage.specs.declared.Salvaging.{Salvaging}
+use Rattle.dss_salvage.specs.inner.SalvageMeasure.{counted}
+use Rattle.dss_reader.specs.Reader.{frames_read}
 
 -- ---- writing
 
 -- a frame fits, or it is longer than what the room has from the fill mark on
-fits_or : (fill size n : ℕ) → (room_for fill size n ≡ Enough) ⊎ (size < fill + n)
+fits_or : (fill size n : ℕ) → (room_for fill size n ≡ Ok tt) ⊎ (size < fill + n)
 fits_or fill size n =
     by (leb fill size)
     (λ t. by (leb n (size - fill)) (λ u. inl (pick_yes _ _ t ∙ pick_yes _ _ u)) (λ u. inr (omega (arith, leb-true fill size t, leb-false n (size - fill) u))))
     (λ t. inr (omega (arith, leb-false fill size t)))
 
-not_done : (v : DssWriter) (x : Refused) → Done v ≡ NotWritten x → ⊥
+not_done : (v : DssWriter) (x : Refused) → Ok v ≡ Err x → ⊥
 not_done v x e = let z : ◌≡◌ {A = ℕ} 0 1 = cc in omega arith
 
-pub writes_kept : (w : DssWriter) (f : Sent) (room : List ℕ) (x : Refused) (after : List ℕ) → Writes w f room (NotWritten x) after → after ≡ room
+pub writes_kept : (w : DssWriter) (f : Sent) (room : List ℕ) (x : Refused) (after : List ℕ) → Writes w f room (Err x) after → after ≡ room
 writes_kept w f room x after p =
     elim (fits_or w.fill (length room) (length (written f))) [
       | inl e ↦ absurd (not_done _ x (sym (p.answers ∙ ap (wrote_by w (length (written f))) e)))
@@ -78,15 +71,15 @@ writes_kept w f room x after p =
 -- ---- reading one frame
 
 -- `next_frame` is taking, whose refusals leave the room
-pub reads_kept : (s : List ℕ) (p : ℕ) (room : List ℕ) (y : Refused) (d : DssReader) (after : List ℕ) → NextFrame s p room (NotRead y d) after
+pub reads_kept : (s : List ℕ) (p : ℕ) (room : List ℕ) (y : Refused) (d : DssReader) (after : List ℕ) → NextFrame s p room (Err y, d) after
     → (after ≡ room) × (d ≡ left_at p y)
 reads_kept s p room y d after q =
     go (taken_of s p (length room) (read_at Reader s p)) (record { answers = refl; room_is = q.room_is })
   where
-    go : (x : Measured) → Takes Reader s p room x after → (after ≡ room) × (d ≡ left_at p y)
-    go (Taken m) w = let k = (next_is_taken s p room (NotRead y d) after (Taken m) after q w).0 in let z : ◌≡◌ {A = ℕ} 0 1 = cc in absurd (omega arith)
-    go (NotTaken z) w =
-        let k : NotRead y d ≡ NotRead z (left_at p z) = (next_is_taken s p room (NotRead y d) after (NotTaken z) after q w).0 in
+    go : (x : Result FrameMeasure Refused) → Takes Reader s p room x after → (after ≡ room) × (d ≡ left_at p y)
+    go (Ok m) w = let k = (next_is_taken s p room (Err y, d) after (Ok m) after q w).0 in let z : ◌≡◌ {A = ℕ} 0 1 = cc in absurd (omega arith)
+    go (Err z) w =
+        let k : (Err y, d) ≡ (Err z, left_at p z) = (next_is_taken s p room (Err y, d) after (Err z) after q w).0 in
         let i : y ≡ z = cc in
         let j : d ≡ left_at p z = cc in
         (takes_kept Reader s p room z after w, j ∙ ap (left_at p) (sym i))
@@ -94,7 +87,7 @@ reads_kept s p room y d after q =
 -- ---- reading all frames
 
 -- a refusal is the run's, or the call's because the frames don't fit
-none_read : (s : List ℕ) (p size rows : ℕ) (x : AllRead) (y : Refused) (d : DssReader) → NoneRead y d ≡ given_frames s p size rows x
+none_read : (s : List ℕ) (p size rows : ℕ) (x : AllRead) (y : Refused) (d : DssReader) → (Err y, d) ≡ given_frames s p size rows x
     → (P : AllRead → Type 0) → ((r : Refused) → y ≡ r → d ≡ left_at p r → P (refused_all r))
     → ((fs : List Frame) (q : ℕ) → frames_fit s fs size rows ≡ false → y.place ≡ p → d ≡ stands_at p → P (frames fs q)) → P x
 none_read s p size rows (refused_all r) y d e P f g =
@@ -105,7 +98,7 @@ none_read s p size rows (frames fs q) y d e P f g =
     by (frames_fit s fs size rows)
     (λ t. let k = e ∙ pick_yes _ _ t in let z : ◌≡◌ {A = ℕ} 0 1 = cc in absurd (omega arith))
     (λ t.
-    let k : NoneRead y d ≡ NoneRead (no_room p (length (payloads_of s fs)) (length fs)) (stands_at p) = e ∙ pick_no _ _ t in
+    let k : (Err y, d) ≡ (Err (no_room p (length (payloads_of s fs)) (length fs)), stands_at p) = e ∙ pick_no _ _ t in
     let i : y ≡ no_room p (length (payloads_of s fs)) (length fs) = cc in
     let j : d ≡ stands_at p = cc in
     g fs q t (ap (λ (z : Refused). z.place) i) j)
@@ -119,16 +112,16 @@ not_dead w e = or_second (eqb (number_of w) 1) (eqb (number_of w) 16) e
 
 module _ (s : List ℕ) (p : ℕ) (room : List ℕ) (y : Refused) (d : DssReader) where
   -- the refusal isn't 16, so its place is where the reader is left
-  stands_kept : (rows : ℕ) → NoneRead y d ≡ given_frames s p (length room) rows (all_frames s p) → d ≡ stands_at y.place
+  stands_kept : (rows : ℕ) → (Err y, d) ≡ given_frames s p (length room) rows (all_frames s p) → d ≡ stands_at y.place
   stands_kept rows e =
       none_read s p (length room) rows (all_frames s p) y d e (λ z. all_frames s p ≡ z → d ≡ stands_at y.place)
       (λ r i j k. j ∙ ap stands_at (pick_no _ _ (not_dead r.why (all_final s p r k))) ∙ ap (λ (z : Refused). stands_at z.place) (sym i))
       (λ fs q t i j k. j ∙ ap stands_at (sym i)) refl
 
-  room_kept : (rows : ℕ) (x : AllRead) → NoneRead y d ≡ given_frames s p (length room) rows x → room_all s room rows x ≡ room
+  room_kept : (rows : ℕ) (x : AllRead) → (Err y, d) ≡ given_frames s p (length room) rows x → room_all s room rows x ≡ room
   room_kept rows x e = none_read s p (length room) rows x y d e (λ z. room_all s room rows z ≡ room) (λ r i j. refl) (λ fs q t i j. pick_no _ _ t)
 
-  pub all_kept : (row : List DssFrame) (room_after : List ℕ) (row_after : List DssFrame) → ReadAllFrames s p room row (NoneRead y d) room_after row_after
+  pub all_kept : (row : List DssFrame) (room_after : List ℕ) (row_after : List DssFrame) → ReadAllFrames s p room row (Err y, d) room_after row_after
       → (room_after ≡ room) × (row_after ≡ row) × (d ≡ stands_at y.place)
   all_kept row room_after row_after q =
       let e = q.answers in (
@@ -137,20 +130,20 @@ module _ (s : List ℕ) (p : ℕ) (room : List ℕ) (y : Refused) (d : DssReader
         stands_kept (length row) e,
       )
 
-  row_kept : (row : List ℕ) → NoneRead y d ≡ given_frames s p (length room) (places row) (all_frames s p) → frames_row s p (length room) row (all_frames s p) ≡ row
+  row_kept : (row : List ℕ) → (Err y, d) ≡ given_frames s p (length room) (places row) (all_frames s p) → frames_row s p (length room) row (all_frames s p) ≡ row
   row_kept row e = none_read s p (length room) (places row) (all_frames s p) y d e (λ z. frames_row s p (length room) row z ≡ row) (λ r i j. refl) (λ fs k t i j. pick_no _ _ t)
 
 -- ---- salvage
 
-not_fit : (s : List ℕ) (size rows : ℕ) (y : Refused) → NotSalvaged y ≡ given_entries s size rows (salvaged s) → entries_fit s (salvaged s).entries size rows ≡ false
+not_fit : (s : List ℕ) (size rows : ℕ) (y : Refused) → Err y ≡ given_entries s size rows (salvaged s) → entries_fit s (salvaged s).entries size rows ≡ false
 not_fit s size rows y e =
     by (entries_fit s (salvaged s).entries size rows)
     (λ t. let k = e ∙ pick_yes _ _ t in let z : ◌≡◌ {A = ℕ} 0 1 = cc in absurd (omega arith))
     (λ t. t)
 
-typed_kept : (found : TypeFound) (w : DssWriter) (f : DssType → Sent) (room : List ℕ) (y : Refused) → wrote_typed found w f (length room) ≡ NotWritten y → room_typed found w f room ≡ room
-typed_kept (Is t) w f room y e = writes_kept w (f t) room y (room_typed (Is t) w f room) (record { answers = sym e; room_is = refl })
-typed_kept (NoType r) w f room y e = refl
+typed_kept : (found : Result DssType Refused) (w : DssWriter) (f : DssType → Sent) (room : List ℕ) (y : Refused) → wrote_typed found w f (length room) ≡ Err y → room_typed found w f room ≡ room
+typed_kept (Ok t) w f room y e = writes_kept w (f t) room y (room_typed (Ok t) w f room) (record { answers = sym e; room_is = refl })
+typed_kept (Err r) w f room y e = refl
 
 -- ---- in words: another number than 0 is a refusal's
 
@@ -158,27 +151,27 @@ module _ (words : List ℕ) (n : ℕ) (answer : List ℕ) (nz : n ≡ 0 → ⊥)
   of_words : (y : Refused) → Answered (refusal_words y) words n answer → RefusedInWords words n answer
   of_words y a = record { why = y; number_is = a.number_is; words_say = λ h. answer_says refl h a; words_kept = λ h. a.words_are ∙ laid_kept words 0 (refusal_words y) (omega arith) }
 
-  of_wrote : (x : Wrote) → Answered (wrote_words x) words n answer → record { y : Refused; is : x ≡ NotWritten y; said : RefusedInWords words n answer }
-  of_wrote (Done w) a = absurd (nz a.number_is)
-  of_wrote (NotWritten y) a = record { y = y; is = refl; said = of_words y a }
+  of_wrote : (x : Result DssWriter Refused) → Answered (wrote_words x) words n answer → record { y : Refused; is : x ≡ Err y; said : RefusedInWords words n answer }
+  of_wrote (Ok w) a = absurd (nz a.number_is)
+  of_wrote (Err y) a = record { y = y; is = refl; said = of_words y a }
 
-  of_read : (x : FrameRead) → Answered (frame_words x) words n answer → record { y : Refused; d : DssReader; is : x ≡ NotRead y d; said : RefusedInWords words n answer }
-  of_read (Hands f d) a = absurd (nz a.number_is)
-  of_read (NotRead y d) a = record { y = y; d = d; is = refl; said = of_words y a }
+  of_read : (x : Result DssFrame Refused × DssReader) → Answered (frame_words x) words n answer → record { y : Refused; d : DssReader; is : x ≡ (Err y, d); said : RefusedInWords words n answer }
+  of_read (Ok f, d) a = absurd (nz a.number_is)
+  of_read (Err y, d) a = record { y = y; d = d; is = refl; said = of_words y a }
 
-  of_taken : (p : ℕ) (x : Measured) → Answered (measured_words p x) words n answer → record { y : Refused; is : x ≡ NotTaken y; said : RefusedInWords words n answer }
-  of_taken p (Taken m) a = absurd (nz a.number_is)
-  of_taken p (NotTaken y) a = record { y = y; is = refl; said = of_words y a }
+  of_taken : (p : ℕ) (x : Result FrameMeasure Refused) → Answered (measured_words p x) words n answer → record { y : Refused; is : x ≡ Err y; said : RefusedInWords words n answer }
+  of_taken p (Ok m) a = absurd (nz a.number_is)
+  of_taken p (Err y) a = record { y = y; is = refl; said = of_words y a }
 
-  of_frames : (x : FramesRead) → Answered (frames_words x) words n answer → record { y : Refused; d : DssReader; is : x ≡ NoneRead y d; said : RefusedInWords words n answer }
-  of_frames (Frames c b d) a = absurd (nz a.number_is)
-  of_frames (NoneRead y d) a = record { y = y; d = d; is = refl; said = of_words y a }
+  of_frames : (x : Result FramesRead Refused × DssReader) → Answered (frames_words x) words n answer → record { y : Refused; d : DssReader; is : x ≡ (Err y, d); said : RefusedInWords words n answer }
+  of_frames (Ok (frames_read c b), d) a = absurd (nz a.number_is)
+  of_frames (Err y, d) a = record { y = y; d = d; is = refl; said = of_words y a }
 
-  of_salvaged : (x : Salvaged) → Answered (salvaged_words x) words n answer → record { y : Refused; is : x ≡ NotSalvaged y; said : RefusedInWords words n answer }
-  of_salvaged (Gathered c b t) a = absurd (nz a.number_is)
-  of_salvaged (NotSalvaged y) a = record { y = y; is = refl; said = of_words y a }
+  of_salvaged : (x : Result Salvaging Refused) → Answered (salvaged_words x) words n answer → record { y : Refused; is : x ≡ Err y; said : RefusedInWords words n answer }
+  of_salvaged (Ok (counted c b t)) a = absurd (nz a.number_is)
+  of_salvaged (Err y) a = record { y = y; is = refl; said = of_words y a }
 
-  pub sends_kept : (found : TypeFound) (w : DssWriter) (f : DssType → Sent) (room after : List ℕ) → Sends found w f room words n after answer → RefusedInWords words n answer × (after ≡ room)
+  pub sends_kept : (found : Result DssType Refused) (w : DssWriter) (f : DssType → Sent) (room after : List ℕ) → Sends found w f room words n after answer → RefusedInWords words n answer × (after ≡ room)
   sends_kept found w f room after p =
       let x = of_wrote (wrote_typed found w f (length room)) p.answers in
       (x.said, p.room_is ∙ typed_kept found w f room x.y x.is)

@@ -1,6 +1,7 @@
 -- The port has it, beyond the user's demands: what document 02's requests W-201 and W-208 say of reading, over the contracts of the
 -- functions themselves, as in Kept. What the lines say holds stands in `demands/specs/Stretches` and `demands/specs/MeasureTake`;
 -- examples that meet what they ask, in StretchExamples and MeasureTakeExamples.
+use Rattle.std.specs.Prelude.{Result, Ok, Err}
 use Prim.Native.Nat.{ℕ, ◌≤◌}
 use mathlib.Core.Path.{◌≡◌, sym, ap, ◌∙◌}
 use mathlib.Core.List.{List, [], ◌∷◌}
@@ -21,23 +22,16 @@ use Rattle.dss_frame.specs.declared.DssFrame.{DssFrame}
 use Rattle.dss_frame.specs.declared.Rules.{Rules}
 use Rattle.dss_frame.specs.declared.Rules.TheVariants.{Reader, Salvage}
 use Rattle.dss_measure.specs.Measure.{measured_at, extent_of}
-use Rattle.dss_measure.specs.declared.Extent.{Extent}
 use Rattle.dss_measure.specs.declared.FrameMeasure.{FrameMeasure}
-use Rattle.dss_measure.specs.declared.Measured.{Measured}
-use Rattle.dss_measure.specs.declared.Measured.TheVariants.{Frame as Measures, Refused as NotMeasured}
 use Rattle.dss_measure.proofs.measure_extent.Reads as measure_extent
 use Rattle.dss_take.specs.Take.{taken_of, room_read, payload_at}
 use Rattle.dss_take.proofs.measure.Reads as measure
 use Rattle.dss_take.proofs.take.Reads as take_frame
 use Rattle.dss_reader.specs.Reader.{read_of}
 use Rattle.dss_reader.specs.declared.DssReader.{DssReader}
-use Rattle.dss_reader.specs.declared.FrameRead.{FrameRead}
-use Rattle.dss_reader.specs.declared.FrameRead.TheVariants.{Frame as Hands}
-use Rattle.dss_reader.specs.declared.FramesRead.TheVariants.{Frames}
 use Rattle.dss_reader.proofs.DssReader.next_frame.Reads as next_frame
 use Rattle.dss_reader.specs.contracts.DssReader.read_all_frames as read_all_frames
 use Rattle.dss_salvage.specs.declared.SalvageEntry.{SalvageEntry}
-use Rattle.dss_salvage.specs.declared.Salvaged.TheVariants.{Done as Listed}
 use Rattle.dss_salvage_call.specs.contracts.salvage as salvage
 use Rattle.gateway_measure.specs.MeasureWords.{rules_of}
 use Rattle.gateway_reader.proofs.lattrugone_next_frame.Reads as lattrugone_next_frame
@@ -54,25 +48,28 @@ use Rattle.demands.proofs.MeasureTake.{measures_then_takes, never_9, words_not_9
 use borrow.Author.Tests.{ne_eqb}
 use Rattle.wire.proofs.WireLaws.{pick_no}
 use Rattle.demands.proofs.OwnHead.{own_head}
+use Rattle.dss_measure.specs.declared.Extent.{Extent}
+use Rattle.dss_salvage.specs.inner.SalvageMeasure.{counted}
+use Rattle.dss_reader.specs.Reader.{frames_read}
 
 -- ---- W-201, "Where each frame stood", of any run. The first `count` records of a row are those that were listed.
 
 -- one frame, whose stretch is that between the two positions
 pub next_read_stood : (κs : Lfts 2) (reader next : DssReader) (s : Bor (List ℕ)) (room : MutBor (List ℕ)) (d : DssFrame) (after : List ℕ)
-    → next_frame.Post κs (reader, (s, (room, tt))) (Hands d next) (reader, (s, (at_last room after, tt)))
+    → next_frame.Post κs (reader, (s, (room, tt))) (Ok d, next) (reader, (s, (at_last room after, tt)))
     → FramesStood s.now after reader.position next.position (d ∷ [])
 next_read_stood κs reader next s room d after p = next_stood s.now reader.position room.now d next after p
 
 module _ {M : Type 1} {𝓤 : Ura M} (𝓛 : Logic 𝓤) (mem : Memory → SProp 𝓤) (routines : Routine → Fun 𝓤) (κs : Lfts 3) (s : Bor (List ℕ)) (room : MutBor (List ℕ)) (room_after : List ℕ) (count bytes : ℕ) where
   -- all frames, from the position to the one that is left
   pub all_read_stood : (row : MutBor (List DssFrame)) (reader left : DssReader) (row_after : List DssFrame)
-      → ent 𝓤 ((read_all_frames.clauses 𝓛 mem routines κs (reader, (s, (room, (row, tt))))).ensures tt (Frames count bytes left) (reader, (s, (at_last room room_after, (at_last row row_after, tt)))))
+      → ent 𝓤 ((read_all_frames.clauses 𝓛 mem routines κs (reader, (s, (room, (row, tt))))).ensures tt (Ok (frames_read count bytes), left) (reader, (s, (at_last room room_after, (at_last row row_after, tt)))))
       (fact 𝓤 (FramesStood s.now room_after reader.position left.position (take count row_after)))
   all_read_stood row reader left row_after = fact_mono 𝓤 _ _ (λ p. all_stood s.now reader.position room.now row.now count bytes left room_after row_after p)
 
   -- "In a salvage list these stretches follow each other without gap or overlap from 0 to the tail's place"
   pub salvage_stood : (row : MutBor (List SalvageEntry)) (tail : ℕ) (row_after : List SalvageEntry)
-      → ent 𝓤 ((salvage.clauses 𝓛 mem routines κs (s, (room, (row, tt)))).ensures tt (Listed count bytes tail) (s, (at_last room room_after, (at_last row row_after, tt))))
+      → ent 𝓤 ((salvage.clauses 𝓛 mem routines κs (s, (room, (row, tt)))).ensures tt (Ok (counted count bytes tail)) (s, (at_last room room_after, (at_last row row_after, tt))))
       (fact 𝓤 (EntriesStood s.now room_after 0 tail (take count row_after)))
   salvage_stood row tail row_after = fact_mono 𝓤 _ _ (λ p. (lists s.now room.now row.now count bytes tail room_after row_after p).stood)
 
@@ -102,11 +99,11 @@ measured_then_taken = measures_then_takes
 -- so of the calls, made of the same run, at the same place and under the same rules
 module _ (rules : Rules) (s : Bor (List ℕ)) (at : ℕ) where
   -- "measuring gives all but 9"
-  pub measure_all_but_9 : (κs : Lfts 1) (why : Refused) → measure.Post κs (rules, (s, (at, tt))) (NotMeasured why) (rules, (s, (at, tt))) → number_of why.why ≡ 9 → ⊥
+  pub measure_all_but_9 : (κs : Lfts 1) (why : Refused) → measure.Post κs (rules, (s, (at, tt))) (Err why) (rules, (s, (at, tt))) → number_of why.why ≡ 9 → ⊥
   measure_all_but_9 κs why p k = never_9 rules s.now at why (sym p) k
 
   -- measured, then taken into any room
-  pub taken_as_measured : (κs : Lfts 1) (κs' : Lfts 2) (measured : Measured) (room : MutBor (List ℕ)) (r : Measured) (after : List ℕ)
+  pub taken_as_measured : (κs : Lfts 1) (κs' : Lfts 2) (measured : Result FrameMeasure Refused) (room : MutBor (List ℕ)) (r : Result FrameMeasure Refused) (after : List ℕ)
       → measure.Post κs (rules, (s, (at, tt))) measured (rules, (s, (at, tt)))
       → take_frame.Post κs' (rules, (s, (at, (room, tt)))) r (rules, (s, (at, (at_last room after, tt))))
       → TakenAs measured (payload_at rules s.now at) at room.now r after
@@ -115,31 +112,31 @@ module _ (rules : Rules) (s : Bor (List ℕ)) (at : ℕ) where
   -- so a room of the measured length is never answered 9: it isn't refused at all
   pub measured_room_enough : (κs : Lfts 1) (κs' : Lfts 2) (m : FrameMeasure) (room : MutBor (List ℕ)) (why : Refused) (after : List ℕ)
       → length room.now ≡ m.payload_len
-      → measure.Post κs (rules, (s, (at, tt))) (Measures m) (rules, (s, (at, tt)))
-      → take_frame.Post κs' (rules, (s, (at, (room, tt)))) (NotMeasured why) (rules, (s, (at, (at_last room after, tt))))
+      → measure.Post κs (rules, (s, (at, tt))) (Ok m) (rules, (s, (at, tt)))
+      → take_frame.Post κs' (rules, (s, (at, (room, tt)))) (Err why) (rules, (s, (at, (at_last room after, tt))))
       → ⊥
   measured_room_enough κs κs' m room why after e p q = not_refused rules s.now at room.now m why after e p q
 
   -- "trusts no measured number from its caller": taken twice, into any two rooms
-  pub taken_by_run_alone : (κs κs' : Lfts 2) (room room' : MutBor (List ℕ)) (r r' : Measured) (after after' : List ℕ)
+  pub taken_by_run_alone : (κs κs' : Lfts 2) (room room' : MutBor (List ℕ)) (r r' : Result FrameMeasure Refused) (after after' : List ℕ)
       → take_frame.Post κs (rules, (s, (at, (room, tt)))) r (rules, (s, (at, (at_last room after, tt))))
       → take_frame.Post κs' (rules, (s, (at, (room', tt)))) r' (rules, (s, (at, (at_last room' after', tt))))
       → ByRunAlone at r after r' after'
   taken_by_run_alone κs κs' room room' r r' after after' p q = runs_alone rules s.now at room.now room'.now r r' after after' p q
 
   -- `measure_extent`, by which all frames are measured, is `measure` without the head: the same length and end, or the same refusal
-  pub extent_as_measured : (κs κs' : Lfts 1) (measured : Measured) (extent : Extent)
+  pub extent_as_measured : (κs κs' : Lfts 1) (measured : Result FrameMeasure Refused) (extent : Result Extent Refused)
       → measure.Post κs (rules, (s, (at, tt))) measured (rules, (s, (at, tt)))
       → measure_extent.Post κs' (rules, (s, (at, tt))) extent (rules, (s, (at, tt)))
       → extent ≡ extent_of measured
   extent_as_measured κs κs' measured extent p q = q ∙ ap extent_of (sym p)
 
 -- by salvage's rules every refusal leaves the position where it was
-pub salvage_measure_stays : (κs : Lfts 1) (s : Bor (List ℕ)) (at : ℕ) (why : Refused) → measure.Post κs (Salvage, (s, (at, tt))) (NotMeasured why) (Salvage, (s, (at, tt))) → position_left at why ≡ at
+pub salvage_measure_stays : (κs : Lfts 1) (s : Bor (List ℕ)) (at : ℕ) (why : Refused) → measure.Post κs (Salvage, (s, (at, tt))) (Err why) (Salvage, (s, (at, tt))) → position_left at why ≡ at
 salvage_measure_stays κs s at why p = own_head s.now at why (sym p)
 
 -- "Split `next_frame`": it is taking under the reader's rules, and leaves the room alike
-pub next_frame_as_taken : (κs κs' : Lfts 2) (reader : DssReader) (s : Bor (List ℕ)) (room : MutBor (List ℕ)) (r : FrameRead) (after : List ℕ) (r' : Measured) (after' : List ℕ)
+pub next_frame_as_taken : (κs κs' : Lfts 2) (reader : DssReader) (s : Bor (List ℕ)) (room : MutBor (List ℕ)) (r : Result DssFrame Refused × DssReader) (after : List ℕ) (r' : Result FrameMeasure Refused) (after' : List ℕ)
     → next_frame.Post κs (reader, (s, (room, tt))) r (reader, (s, (at_last room after, tt)))
     → take_frame.Post κs' (Reader, (s, (reader.position, (room, tt)))) r' (Reader, (s, (reader.position, (at_last room after', tt))))
     → (r ≡ read_of reader.position r') × (after ≡ after')

@@ -1,4 +1,5 @@
 -- All frames and salvage in words: over the records that the contracts of the exported calls cite.
+use Rattle.std.specs.Prelude.{Ok}
 use Prim.Native.Nat.{ℕ, suc, ◌+◌, ◌*◌, ◌≤◌}
 use native.Mathlib.Omega.{arith}
 use mathlib.Core.Path.{◌≡◌, refl, sym, ap, ap₂, subst, ◌∙◌}
@@ -20,7 +21,6 @@ use Rattle.dss_frame.specs.Salvage.{Entry, salvaged}
 use Rattle.dss_frame.specs.Written.{Sent, written}
 use Rattle.dss_frame.specs.declared.DssFrame.{DssFrame}
 use Rattle.dss_reader.specs.Reader.{stands_at, frames_fit, given_frames, room_all}
-use Rattle.dss_reader.specs.declared.FramesRead.TheVariants.{Frames}
 use Rattle.dss_salvage.specs.SalvageEntries.{entry_at, salvaged_bytes, salvaged_row}
 use Rattle.dss_salvage_call.specs.SalvageCall.{entries_fit, given_entries}
 use Rattle.dss_salvage.specs.declared.SalvageEntry.{SalvageEntry}
@@ -39,6 +39,7 @@ use Rattle.demands.specs.KeptMeaning.{AllInWords, AllBackInWords, ItemInWords, I
 use Rattle.demands.proofs.ReaderKeeps.{given_payloads}
 use Rattle.demands.proofs.SalvageKeeps.{due_bytes_lem, all_bytes_lem}
 use Rattle.demands.proofs.KeptFrame.{is_frame, in_words, answer_says}
+use Rattle.dss_reader.specs.Reader.{frames_read}
 
 -- a payload that stands at a place of the room, and what stands behind it
 payload_at : (room x more rest : List ℕ) (at : ℕ) → drop at room ≡ (x ++ more) ++ rest → drop at room ≡ x ++ (more ++ rest)
@@ -79,11 +80,11 @@ frames_back_words fs a room row words h k l n room_after row_after answer p =
     let c : length rs ≡ length fs = records_long s 0 0 gs ∙ e.1 in
     let fit : frames_fit s gs (length room) (places row) ≡ true =
     and_both _ _ (le-leb (length (payloads_of s gs)) (length room) (omega (arith, ap length e.0))) (le-leb (length gs) (places row) (omega (arith, e.1))) in
-    let said : frames_words (given_frames s 0 (length room) (places row) (all_frames s 0)) ≡ frames_words (Frames (length fs) (length (payloads fs)) (stands_at (length s))) =
+    let said : frames_words (given_frames s 0 (length room) (places row) (all_frames s 0)) ≡ frames_words (Ok (frames_read (length fs) (length (payloads fs))), stands_at (length s)) =
     ap (λ x. frames_words (given_frames s 0 (length room) (places row) x)) b.is
     ∙ ap frames_words (pick_yes _ _ fit)
-    ∙ ap₂ (λ (i j : ℕ). frames_words (Frames i j (stands_at (length s)))) e.1 (ap length e.0) in
-    let w : Answered (frames_words (Frames (length fs) (length (payloads fs)) (stands_at (length s)))) words n answer =
+    ∙ ap₂ (λ (i j : ℕ). frames_words (Ok (frames_read i j), stands_at (length s))) e.1 (ap length e.0) in
+    let w : Answered (frames_words (Ok (frames_read (length fs) (length (payloads fs))), stands_at (length s))) words n answer =
     subst (λ (x : List ℕ). Answered x words n answer) said p.answers in
     let room_is : room_after ≡ splice room 0 (payloads fs) =
     p.room_is ∙ ap (room_all s room (places row)) b.is ∙ pick_yes _ _ fit ∙ ap (splice room 0) e.0 in

@@ -1,5 +1,6 @@
 -- Demand 2's clause on layouts, reading: bytes that have volume 3's layout of one structure are read as the layout says, unless
 -- their last chunk is full, where the reader, as the Rust, waits for another and salvage doesn't.
+use Rattle.std.specs.Prelude.{Result, Ok}
 use Prim.Native.Nat.{ℕ, ◌+◌, ◌-◌, ◌≤◌, ◌<◌}
 use native.Mathlib.Omega.{arith}
 use mathlib.Core.Path.{◌≡◌, refl, sym, ap, ap₂, ◌∙◌}
@@ -15,8 +16,6 @@ use Rattle.dss_head.proofs.TypeLaws.{type_known}
 use Rattle.dss_head.proofs.HeadLaws.{head_back}
 use Rattle.dss_head.specs.declared.DssHeader.{DssHeader}
 use Rattle.dss_head.specs.declared.DssType.{DssType}
-use Rattle.dss_head.specs.declared.HeadFound.{HeadFound}
-use Rattle.dss_head.specs.declared.HeadFound.TheVariants.{Head}
 use Rattle.dss_frame.specs.Rules.{chunk_under}
 use Rattle.dss_frame.specs.declared.Rules.{Rules}
 use Rattle.dss_frame.specs.declared.Rules.TheVariants.{Reader, Salvage}
@@ -30,6 +29,7 @@ use Rattle.layouts.specs.DssLayout.{Structure, Continued, ends, goes_on, EndsFul
 use Rattle.demands.specs.DssLayouts.{ReadAs, ReadsDssLayout, ReadsFullLast, WaitsBehindFull}
 use Rattle.demands.proofs.FaithfulLayout.{allowed_in}
 use Rattle.demands.proofs.WrittenLayout.{head_in, head_bytes_lem}
+use Rattle.answer.specs.declared.Refused.{Refused}
 
 -- ---- the walk over the chunks
 
@@ -182,22 +182,22 @@ laid Salvage {w} (several a b more bytes e h c) k = several_laid Salvage w b mor
 -- ---- its head
 
 head_sent : (w : Structure) (t : DssType) (n : ℕ) (x : List ℕ) → type_byte t ≡ w.type → n < 65536 → w.correlation < 65536
-    → head_at (two n ++ (rest w ++ x)) 0 ≡ Head (head_in w t (length_of n))
+    → head_at (two n ++ (rest w ++ x)) 0 ≡ Ok (head_in w t (length_of n))
 head_sent w t n x e h v = ap (λ (s : List ℕ). head_at s 0) (head_bytes_lem w t n x e) ∙ head_back (head_in w t n) x h v
 
-head_laid : {w : Structure} {s : List ℕ} → Dss w s → (t : DssType) → type_byte t ≡ w.type → record { length : ℕ; is : head_at s 0 ≡ Head (head_in w t length) }
+head_laid : {w : Structure} {s : List ℕ} → Dss w s → (t : DssType) → type_byte t ≡ w.type → record { length : ℕ; is : head_at s 0 ≡ Ok (head_in w t length) }
 head_laid {w} (one a h) t e = record { length = _; is = head_sent w t (length w.payload + 6) w.payload e (omega arith) a.correlation }
 head_laid {w} (several a b more bytes k h c) t e = record { length = _; is = head_sent w t 0xFFFF (b ++ bytes) e (omega arith) a.correlation }
 
 -- ---- the reading
 
 -- of a walk that is whole and ends where the run ends, the head decides
-reads_walk : (rules : Rules) (s : List ℕ) (gs : List Segment) (x : HeadFound) → frame_walk rules s 0 ≡ whole gs → head_at s 0 ≡ x → read_at rules s 0 ≡ read_head rules s 0 gs x
+reads_walk : (rules : Rules) (s : List ℕ) (gs : List Segment) (x : Result DssHeader Refused) → frame_walk rules s 0 ≡ whole gs → head_at s 0 ≡ x → read_at rules s 0 ≡ read_head rules s 0 gs x
 unfolding read_at
 reads_walk rules s gs x e k = pick_yes _ _ (le-leb 0 (length s) (omega arith)) ∙ ap (read_walk rules s 0) e ∙ ap (read_head rules s 0 gs) k
 
 reads_frame : (rules : Rules) (s : List ℕ) (h : DssHeader) (gs : List Segment) → 6 ≤ be16 s 0 → end_of 0 gs ≡ length s
-    → read_head rules s 0 gs (Head h) ≡ frame (record { head = h; segments = gs })
+    → read_head rules s 0 gs (Ok h) ≡ frame (record { head = h; segments = gs })
 reads_frame rules s h gs l e =
     pick_no _ _ (le-ltb (be16 s 0) 6 l)
     ∙ pick_by (λ (x : Read). x ≡ frame (record { head = h; segments = gs })) (eqb (be16 s 0) 0xFFFF) _ _ (λ k. refl)
@@ -212,7 +212,7 @@ reads_under rules w s l k =
     record {
       read = record { head = head_in w t.type h.length; segments = g.segments };
       is =
-          reads_walk rules s g.segments (Head (head_in w t.type h.length)) g.is h.is
+          reads_walk rules s g.segments (Ok (head_in w t.type h.length)) g.is h.is
           ∙ reads_frame rules s (head_in w t.type h.length) g.segments g.six.0 g.end;
       says = record { type = t.is; chained = refl; on_error_is = refl; same = refl; correlation = refl; payload = g.payload };
       consumed = g.end;

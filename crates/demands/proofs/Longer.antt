@@ -1,5 +1,6 @@
 -- What becomes of an answer over a longer run: a refusal of a head stays, a settled frame stays, any other frame grows or is
 -- refused behind its end; and only a frame that wasn't whole may come to anything.
+use Rattle.std.specs.Prelude.{Result}
 use Prim.Native.Nat.{ℕ, zero, suc, ◌-◌, ◌≤◌}
 use native.Mathlib.Omega.{arith}
 use mathlib.Core.Path.{◌≡◌, refl, sym, ap, subst, ◌∙◌}
@@ -17,7 +18,6 @@ use Rattle.answer.specs.declared.Refusal.TheVariants.{Incomplete, LengthTooShort
 use Rattle.answer.specs.declared.Refused.{Refused}
 use Rattle.dss_head.specs.Heads.{head_at}
 use Rattle.dss_head.specs.declared.DssHeader.{DssHeader}
-use Rattle.dss_head.specs.declared.HeadFound.{HeadFound}
 use Rattle.dss_frame.specs.declared.Rules.{Rules}
 use Rattle.dss_frame.specs.Segments.{Segment, payload_of, end_of, Walk, dead, frame_walk}
 use Rattle.dss_frame.specs.Reading.{Look, look, Read, frame, refused, Frame, starts_extended, with_chained, behind_frame, absorb, absorb_fuel, read_head, read_walk, read_at}
@@ -102,7 +102,7 @@ absorb_becomes (suc k) rules s t p h gs ne l e =
     by_look l₁ l₂ (stops r n k) step go = subst (Becomes rules s t p _) (sym step) (same_refusal r (inr n))
     by_look l₁ l₂ (unsettled u x) step go = open_frame (record { head = h; segments = gs }) _ ne u e refl
 
-head_becomes : (rules : Rules) (s t : List ℕ) (p : ℕ) (gs : List Segment) (x : HeadFound) → 6 ≤ length s - p → SameBytes s t gs → HeadSays p x
+head_becomes : (rules : Rules) (s t : List ℕ) (p : ℕ) (gs : List Segment) (x : Result DssHeader Refused) → 6 ≤ length s - p → SameBytes s t gs → HeadSays p x
     → Becomes rules s t p (read_head rules s p gs x) (read_head rules (s ++ t) p gs x)
 unfolding absorb
 head_becomes rules s t p gs x l e (refuses_head r n k) = same_refusal r (inr n)
@@ -126,7 +126,7 @@ read_becomes rules s t p i =
   where
     by_walk : (v w : Walk) → Stays s t v w → 6 ≤ length s - p → Becomes rules s t p (read_walk rules s p v) (read_walk rules (s ++ t) p w)
     by_walk v w (stays_whole gs e) l =
-        subst (λ (x : HeadFound). Becomes rules s t p (read_head rules s p gs (head_at s p)) (read_head rules (s ++ t) p gs x)) (sym (head_longer s t p l))
+        subst (λ (x : Result DssHeader Refused). Becomes rules s t p (read_head rules s p gs (head_at s p)) (read_head rules (s ++ t) p gs x)) (sym (head_longer s t p l))
         (head_becomes rules s t p gs (head_at s p) l e (head_says s p l))
     by_walk v w (stays_dead q) l = same_refusal _ (inl refl)
     by_walk v w (was_short x) l = not_whole_lem _

@@ -1,6 +1,7 @@
 -- The rule "a frame is taken once a whole frame stands behind it", over the contracts of `next_frame` and `has_complete_frame`, and
 -- over the records that the exported functions' contracts cite: the same call over a longer run has the same answer, and leaves the
 -- same room.
+use Rattle.std.specs.Prelude.{Result, Ok, Err}
 use Prim.Native.Nat.{ℕ, ◌≤◌}
 use native.Mathlib.Omega.{arith}
 use mathlib.Core.Path.{◌≡◌, refl, sym, ap, subst, ◌∙◌}
@@ -25,10 +26,6 @@ use Rattle.dss_frame.specs.FrameRecords.{frame_record}
 use Rattle.dss_take.specs.Take.{room_read}
 use Rattle.dss_reader.specs.Reader.{stands_at, left_at, frame_end, given_frame, NextFrame}
 use Rattle.dss_reader.specs.declared.DssReader.{DssReader}
-use Rattle.dss_reader.specs.declared.FrameEnd.{FrameEnd}
-use Rattle.dss_reader.specs.declared.FrameEnd.TheVariants.{End, Refused as NoEnd}
-use Rattle.dss_reader.specs.declared.FrameRead.{FrameRead}
-use Rattle.dss_reader.specs.declared.FrameRead.TheVariants.{Frame as Hands, Refused as NotRead}
 use Rattle.dss_reader.proofs.DssReader.has_complete_frame.Reads as has_complete_frame
 use Rattle.dss_reader.proofs.DssReader.next_frame.Reads as next_frame
 use Rattle.gateway_words.specs.AnswerWords.{Answered}
@@ -45,26 +42,26 @@ given_same : (s s' : List ℕ) (p n : ℕ) (f : Frame) → payload_of s' f.segme
 given_same s s' p n f e =
     ap
     (λ (b : List ℕ). pick (leb (length b) n)
-    (Hands (record { header = f.head; payload_at = 0; payload_len = length b; segments = length f.segments; at = p; end = end_of p f.segments }) (stands_at (end_of p f.segments)))
-    (NotRead (no_room p (length b) 0) (stands_at p)))
+    (Ok (record { header = f.head; payload_at = 0; payload_len = length b; segments = length f.segments; at = p; end = end_of p f.segments }), stands_at (end_of p f.segments))
+    (Err (no_room p (length b) 0), stands_at p))
     e
 
-hands_refused : (d : DssFrame) (next at : DssReader) (r : Refused) → NotRead r at ≡ Hands d next → ⊥
+hands_refused : (d : DssFrame) (next at : DssReader) (r : Refused) → ⟪NotRead⟫ r at ≡ (Ok d, next) → ⊥
 hands_refused d next at r e = let z : ◌≡◌ {A = ℕ} 0 1 = cc in omega arith
 
-hands_next : (d e : DssFrame) (at next : DssReader) → Hands e at ≡ Hands d next → at ≡ next
+hands_next : (d e : DssFrame) (at next : DssReader) → ⟪Hands⟫ e at ≡ (Ok d, next) → at ≡ next
 hands_next d e at next k = cc
 
 -- where the reader stands behind the frame that it handed out
-stands_behind : (s : List ℕ) (p n : ℕ) (f : Frame) (d : DssFrame) (next : DssReader) → given_frame s p n (frame f) ≡ Hands d next → end_of p f.segments ≡ next.position
+stands_behind : (s : List ℕ) (p n : ℕ) (f : Frame) (d : DssFrame) (next : DssReader) → given_frame s p n (frame f) ≡ (Ok d, next) → end_of p f.segments ≡ next.position
 stands_behind s p n f d next e =
     picked (leb (length (payload_of s f.segments)) n) e
     (λ k j. ap (λ (x : DssReader). x.position) (hands_next d (frame_record s p 0 f) (stands_at (end_of p f.segments)) next j))
     (λ k j. absurd (hands_refused d next (stands_at p) _ j))
 
 -- by any test that settles what stands before
-pub taken_same : (test : Complete) → TakenStay (read_at Reader) test → (s t : List ℕ) (p : ℕ) (room : List ℕ) (d : DssFrame) (next : DssReader) (r r' : FrameRead) (after after' : List ℕ)
-    → NextFrame s p room r after → r ≡ Hands d next → test s next.position ≡ true → NextFrame (s ++ t) p room r' after' → (r' ≡ r) × (after' ≡ after)
+pub taken_same : (test : Complete) → TakenStay (read_at Reader) test → (s t : List ℕ) (p : ℕ) (room : List ℕ) (d : DssFrame) (next : DssReader) (r r' : Result DssFrame Refused × DssReader) (after after' : List ℕ)
+    → NextFrame s p room r after → r ≡ (Ok d, next) → test s next.position ≡ true → NextFrame (s ++ t) p room r' after' → (r' ≡ r) × (after' ≡ after)
 taken_same test stay s t p room d next r r' after after' a h c b = go (read_at Reader s p) refl
   where
     go : (x : Read) → read_at Reader s p ≡ x → (r' ≡ r) × (after' ≡ after)
@@ -79,14 +76,14 @@ taken_same test stay s t p room d next r r' after after' a h c b = go (read_at R
 
 -- over the contracts themselves: a frame is handed out, a whole one stands behind it, and the first call is made again over a
 -- run with more bytes and a room with the same ones
-pub calls_same : (κs κs' : Lfts 2) (κs'' : Lfts 1) (reader next : DssReader) (run run' : Bor (List ℕ)) (room room' : MutBor (List ℕ)) (t : List ℕ) (d : DssFrame) (r' : FrameRead) (after after' : List ℕ)
+pub calls_same : (κs κs' : Lfts 2) (κs'' : Lfts 1) (reader next : DssReader) (run run' : Bor (List ℕ)) (room room' : MutBor (List ℕ)) (t : List ℕ) (d : DssFrame) (r' : Result DssFrame Refused × DssReader) (after after' : List ℕ)
     → run'.now ≡ run.now ++ t → room'.now ≡ room.now
-    → next_frame.Post κs (reader, (run, (room, tt))) (Hands d next) (reader, (run, (at_last room after, tt)))
+    → next_frame.Post κs (reader, (run, (room, tt))) (Ok d, next) (reader, (run, (at_last room after, tt)))
     → has_complete_frame.Post κs'' (next, (run, tt)) true (next, (run, tt))
     → next_frame.Post κs' (reader, (run', (room', tt))) r' (reader, (run', (at_last room' after', tt)))
-    → (r' ≡ Hands d next) × (after' ≡ after)
+    → (r' ≡ (Ok d, next)) × (after' ≡ after)
 calls_same κs κs' κs'' reader next run run' room room' t d r' after after' e k a c b =
-    taken_same complete reader_taken_stay run.now t reader.position room.now d next (Hands d next) r' after after' a refl (sym c)
+    taken_same complete reader_taken_stay run.now t reader.position room.now d next (Ok d, next) r' after after' a refl (sym c)
     (subst (λ (s : List ℕ). NextFrame s reader.position room.now r' after') e (subst (λ (m : List ℕ). NextFrame run'.now reader.position m r' after') k b))
 
 -- ---- for a caller in C or Rust
@@ -100,26 +97,26 @@ pub end_decided : (s : List ℕ) (p : ℕ) (words : List ℕ) (number : ℕ) (an
     → decided (frame_end s p) ≡ true
 end_decided s p words number answer a k = go (frame_end s p) a k
   where
-    go : (x : FrameEnd) → Answered (end_words x) words number answer → (number ≡ 0) ⊎ (number ≡ 16) → decided x ≡ true
-    go (End e) b k = refl
-    go (NoEnd r) b (inl i) = absurd (omega (arith, numbered r.why, b.number_is))
-    go (NoEnd r) b (inr i) = eq-eqb (number_of r.why) 16 (sym b.number_is ∙ i)
+    go : (x : Result ℕ Refused) → Answered (end_words x) words number answer → (number ≡ 0) ⊎ (number ≡ 16) → decided x ≡ true
+    go (Ok e) b k = refl
+    go (Err r) b (inl i) = absurd (omega (arith, numbered r.why, b.number_is))
+    go (Err r) b (inr i) = eq-eqb (number_of r.why) 16 (sym b.number_is ∙ i)
 
 module _ (test : Complete) (stay : TakenStay (read_at Reader) test) (s t : List ℕ) (p : ℕ) (room words words' : List ℕ) (k : 8 ≤ length words) (k' : 8 ≤ length words') (after answer : List ℕ) (number : ℕ) (after' answer' : List ℕ)
     (a : ReadsFrame s p room words 0 after answer) (c : test s (get_or (take 8 answer) 1 0) ≡ true) (b : ReadsFrame (s ++ t) p room words' number after' answer') where
-  first_says : (x : FrameRead) → given_frame s p (length room) (read_at Reader s p) ≡ x → Answered (frame_words x) words 0 answer
-  first_says x e = subst (λ (y : FrameRead). Answered (frame_words y) words 0 answer) e a.answers
+  first_says : (x : Result DssFrame Refused × DssReader) → given_frame s p (length room) (read_at Reader s p) ≡ x → Answered (frame_words x) words 0 answer
+  first_says x e = subst (λ (y : Result DssFrame Refused × DssReader). Answered (frame_words y) words 0 answer) e a.answers
 
   pub words_same : (number ≡ 0) × (take 8 answer' ≡ take 8 answer) × (after' ≡ after)
   words_same = go (given_frame s p (length room) (read_at Reader s p)) refl
     where
-      go : (x : FrameRead) → given_frame s p (length room) (read_at Reader s p) ≡ x → (number ≡ 0) × (take 8 answer' ≡ take 8 answer) × (after' ≡ after)
-      go (NotRead r at) e = absurd (omega (arith, numbered r.why, (first_says (NotRead r at) e).number_is))
-      go (Hands d next) e =
+      go : (x : Result DssFrame Refused × DssReader) → given_frame s p (length room) (read_at Reader s p) ≡ x → (number ≡ 0) × (take 8 answer' ≡ take 8 answer) × (after' ≡ after)
+      go (⟪NotRead⟫ r at) e = absurd (omega (arith, numbered r.why, (first_says (⟪NotRead⟫ r at) e).number_is))
+      go (Ok d, next) e =
           let w : List ℕ = frame_at next.position d.at d in
-          let said : take 8 answer ≡ w = answer_says refl k (first_says (Hands d next) e) in
+          let said : take 8 answer ≡ w = answer_says refl k (first_says (Ok d, next) e) in
           let z =
-          taken_same test stay s t p room d next (Hands d next) (given_frame (s ++ t) p (length room) (read_at Reader (s ++ t) p)) after after'
+          taken_same test stay s t p room d next (Ok d, next) (given_frame (s ++ t) p (length room) (read_at Reader (s ++ t) p)) after after'
           (record { answers = sym e; room_is = a.room_is }) refl (subst (λ (l : List ℕ). test s (get_or l 1 0) ≡ true) said c) (record { answers = refl; room_is = b.room_is }) in
-          let n : Answered w words' number answer' = subst (λ (y : FrameRead). Answered (frame_words y) words' number answer') z.0 b.answers in
+          let n : Answered w words' number answer' = subst (λ (y : Result DssFrame Refused × DssReader). Answered (frame_words y) words' number answer') z.0 b.answers in
           (n.number_is, answer_says refl k' n ∙ sym said, z.1)

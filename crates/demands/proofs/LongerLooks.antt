@@ -1,5 +1,6 @@
 -- What a look at what follows a frame says over a longer run: the same, unless it was finished for a reason that more bytes
 -- can do away with.
+use Rattle.std.specs.Prelude.{Result, Ok}
 use Prim.Native.Nat.{ℕ, ◌+◌, ◌-◌, ◌≤◌, ◌<◌}
 use native.Mathlib.Omega.{arith}
 use mathlib.Core.Path.{◌≡◌, refl, sym, ap, ap₂, subst, ◌∙◌}
@@ -16,8 +17,6 @@ use Rattle.answer.specs.declared.Refused.{Refused}
 use Rattle.dss_head.specs.Heads.{head_at}
 use Rattle.dss_head.specs.declared.DssType.{DssType}
 use Rattle.dss_head.specs.declared.DssHeader.{DssHeader}
-use Rattle.dss_head.specs.declared.HeadFound.{HeadFound}
-use Rattle.dss_head.specs.declared.HeadFound.TheVariants.{Head}
 use Rattle.dss_frame.specs.declared.Rules.{Rules}
 use Rattle.dss_frame.specs.declared.Rules.TheVariants.{Reader, Salvage}
 use Rattle.dss_frame.specs.Segments.{Segment, short, frame_walk}
@@ -83,7 +82,7 @@ module _ (rules : Rules) (s t : List ℕ) (type : DssType) (extended : Bool) (q 
       (ap₂ (λ (n d : ℕ). segment n d h.flags.chained) (sym raw) (dropped_longer s t extended q there raw))
       (takes _ _ (record { six = omega arith; there = omega arith }))))
 
-  looks_head : (x : HeadFound) → head_at s q ≡ x → HeadSays q x → 6 ≤ length s - q → Looks s type q (look_at rules s type extended q x) (look_at rules (s ++ t) type extended q x)
+  looks_head : (x : Result DssHeader Refused) → head_at s q ≡ x → HeadSays q x → 6 ≤ length s - q → Looks s type q (look_at rules s type extended q x) (look_at rules (s ++ t) type extended q x)
   unfolding segment
   looks_head x k (refuses_head r n e) six = looks_refusal rules s type q r n e
   looks_head x k (finds h) six =
@@ -116,7 +115,7 @@ unsettled_short rules s type q (beyond h k ne same follow far) =
     (λ e. pick_no _ _ (ne_eqb (be16 s q) 65535 ne) ∙ pick_no _ _ (lt-leb (be16 s q) (length s - q) far))
 
 -- what is no segment of the frame before it finishes a look
-own_finished : (rules : Rules) (s : List ℕ) (type : DssType) (extended : Bool) (q : ℕ) (h : DssHeader) → own_object s q ≡ true → look_at rules s type extended q (Head h) ≡ finished
+own_finished : (rules : Rules) (s : List ℕ) (type : DssType) (extended : Bool) (q : ℕ) (h : DssHeader) → own_object s q ≡ true → look_at rules s type extended q (Ok h) ≡ finished
 own_finished rules s type extended q h o =
     let l : 10 < be16 s q = ltb-true 10 (be16 s q) (and_split (ltb 10 (be16 s q)) _ o).0 in
     let done : Look → Type 0 = λ x. x ≡ finished in

@@ -1,4 +1,5 @@
 -- What stands inside a run stands there over a longer run too: parts, payloads, heads, and the walk over a frame's segments.
+use Rattle.std.specs.Prelude.{Result, Ok, Err}
 use Prim.Native.Nat.{ℕ, zero, suc, ◌+◌, ◌-◌, ◌/◌, ◌≤◌, ◌<◌}
 use native.Mathlib.Omega.{arith}
 use native.Mathlib.Decide.{dec_le}
@@ -18,9 +19,6 @@ use Rattle.dss_head.proofs.TypeLaws.{type_by}
 use Rattle.dss_head.specs.declared.Chunk.{Chunk}
 use Rattle.dss_head.specs.declared.Chunk.TheVariants.{Dead, Last, Full}
 use Rattle.dss_head.specs.declared.DssHeader.{DssHeader}
-use Rattle.dss_head.specs.declared.TypeFound.{TypeFound}
-use Rattle.dss_head.specs.declared.HeadFound.{HeadFound}
-use Rattle.dss_head.specs.declared.HeadFound.TheVariants.{Head, Refused as Refuses}
 use Rattle.dss_frame.specs.Rules.{chunk_under}
 use Rattle.dss_frame.specs.declared.Rules.{Rules}
 use Rattle.dss_frame.specs.Segments.{Segment, payload_of, Walk, whole, short, dead, behind, continuation, first, step, walk_fuel, continuations, frame_walk}
@@ -28,6 +26,7 @@ use Rattle.demands.specs.Longer.{OfHead}
 use Rattle.dss_laws.proofs.Ends.{payload_append}
 use Rattle.dss_laws.proofs.HeadFields.{head_moved}
 use Rattle.dss_laws.proofs.Continuations.{continuations_step}
+use Rattle.dss_head.specs.declared.DssType.{DssType}
 
 -- ---- two choices, related where each test picks
 
@@ -78,13 +77,13 @@ head_longer s t q h =
     head_moved (s ++ t) (drop q s) t q (drop-append-le q s t (omega arith)) l ∙ sym (head_moved s (drop q s) [] q (sym (append-nil (drop q s))) l)
 
 -- where six bytes are, a head is found, or refused there
-pub data HeadSays (q : ℕ) : HeadFound → Type 0 where
-  finds : (h : DssHeader) → HeadSays q (Head h)
-  refuses_head : (r : Refused) → OfHead r → r.place ≡ q → HeadSays q (Refuses r)
+pub data HeadSays (q : ℕ) : Result DssHeader Refused → Type 0 where
+  finds : (h : DssHeader) → HeadSays q (Ok h)
+  refuses_head : (r : Refused) → OfHead r → r.place ≡ q → HeadSays q (Err r)
 
 type_says : (s : List ℕ) (q b : ℕ) → HeadSays q (head_with s q (type_at b q))
 type_says s q b =
-    type_by (λ (x : TypeFound). HeadSays q (head_with s q x)) b q (λ t _. finds _) (λ _. refuses_head _ (inr (inl refl)) refl)
+    type_by (λ (x : Result DssType Refused). HeadSays q (head_with s q x)) b q (λ t _. finds _) (λ _. refuses_head _ (inr (inl refl)) refl)
 
 pub head_says : (s : List ℕ) (q : ℕ) → 6 ≤ length s - q → HeadSays q (head_at s q)
 head_says s q l =

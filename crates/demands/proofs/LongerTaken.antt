@@ -1,4 +1,5 @@
 -- When a frame may be taken while bytes still come in: once a whole frame stands behind it, and what waiting for that costs.
+use Rattle.std.specs.Prelude.{Result, Ok, Err}
 use Prim.Native.Nat.{ℕ, zero, suc, ◌-◌, ◌≤◌}
 use mathlib.Core.Path.{◌≡◌, refl, sym, ap, subst, ◌∙◌}
 use mathlib.Core.Logic.{inr}
@@ -14,13 +15,10 @@ use Rattle.answer.specs.declared.Refused.{Refused}
 use Rattle.dss_head.specs.Heads.{head_at}
 use Rattle.dss_head.specs.declared.DssType.{DssType}
 use Rattle.dss_head.specs.declared.DssHeader.{DssHeader}
-use Rattle.dss_head.specs.declared.HeadFound.{HeadFound}
-use Rattle.dss_head.specs.declared.HeadFound.TheVariants.{Head, Refused as Refuses}
 use Rattle.dss_frame.specs.declared.Rules.TheVariants.{Reader as AsReader, Salvage as AsSalvage}
 use Rattle.dss_frame.specs.Segments.{Segment, Walk, whole, short, dead, payload_of, end_of, frame_walk}
 use Rattle.dss_frame.specs.Reading.{Look, finished, absorbs, refuses, look, look_at, Read, frame, refused, Frame, follows, own_object, starts_extended, behind_frame, absorb, absorb_fuel, read_head, read_walk, read_at}
 use Rattle.dss_reader.specs.Reader.{end_found, frame_end, is_end}
-use Rattle.dss_reader.specs.declared.FrameEnd.{FrameEnd}
 use Rattle.demands.specs.Demands.{Reader}
 use Rattle.demands.specs.Longer.{SettledStay, OfHead, Grown, goes_on, refused_behind, FramesGrow, Complete, WholeBehindSettles, TakenStay, Begins, WaitingLosesNothing, SalvageKeepsWaiting, EarlyStay}
 use Rattle.demands.specs.Mending.{decided}
@@ -37,7 +35,7 @@ complete s q = is_end (frame_end s q)
 
 short_no_end : (s : List ℕ) (q : ℕ) → frame_walk AsReader s q ≡ short → is_end (frame_end s q) ≡ false
 unfolding frame_end
-short_no_end s q k = pick_by (λ (x : FrameEnd). is_end x ≡ false) (leb q (length s)) _ _ (λ e. ap (λ (w : Walk). is_end (end_found q w)) k) (λ e. refl)
+short_no_end s q k = pick_by (λ (x : Result ℕ Refused). is_end x ≡ false) (leb q (length s)) _ _ (λ e. ap (λ (w : Walk). is_end (end_found q w)) k) (λ e. refl)
 
 pub whole_behind_settles : WholeBehindSettles complete
 whole_behind_settles s p f e =
@@ -54,7 +52,7 @@ reader_taken_stay = taken_stay (read_at AsReader) complete (settled_stay AsReade
 -- a frame behind it that is never whole settles it too
 short_undecided : (s : List ℕ) (q : ℕ) → frame_walk AsReader s q ≡ short → decided (frame_end s q) ≡ false
 unfolding frame_end
-short_undecided s q k = pick_by (λ (x : FrameEnd). decided x ≡ false) (leb q (length s)) _ _ (λ e. ap (λ (w : Walk). decided (end_found q w)) k) (λ e. refl)
+short_undecided s q k = pick_by (λ (x : Result ℕ Refused). decided x ≡ false) (leb q (length s)) _ _ (λ e. ap (λ (w : Walk). decided (end_found q w)) k) (λ e. refl)
 
 pub decided_behind_settles : WholeBehindSettles (λ s q. decided (frame_end s q))
 decided_behind_settles s p f e =
@@ -108,9 +106,9 @@ data Both : Look → Look → Type 0 where
   takes : (g : Segment) (c : Bool) → Both (absorbs g c) (absorbs g c)
   closes : (r : Refused) → Both (refuses r) finished
 
-both_at : (s : List ℕ) (type : DssType) (extended : Bool) (q : ℕ) (h : HeadFound) → Both (look_at AsReader s type extended q h) (look_at AsSalvage s type extended q h)
-both_at s type extended q (Refuses r) = closes r
-both_at s type extended q (Head h) =
+both_at : (s : List ℕ) (type : DssType) (extended : Bool) (q : ℕ) (h : Result DssHeader Refused) → Both (look_at AsReader s type extended q h) (look_at AsSalvage s type extended q h)
+both_at s type extended q (Err r) = closes r
+both_at s type extended q (Ok h) =
     both (eqb (be16 s q) 65535) done
     (both h.flags.same_correlation
     (both (follows type h.dss_type)
@@ -165,10 +163,10 @@ walk_one : (s : List ℕ) (p : ℕ) → (be16 s p ≡ 0xFFFF → ⊥) → frame_
 unfolding frame_walk
 walk_one s p ne = pick_same (ltb (length s - p) 6) (λ e. refl) (λ e. pick_no _ _ (ne_eqb (be16 s p) 65535 ne) ∙ sym (pick_no _ _ (ne_eqb (be16 s p) 65535 ne)))
 
-salvage_head : (s : List ℕ) (p : ℕ) (gs : List Segment) (x : HeadFound) (f : Frame) → read_head AsReader s p gs x ≡ frame f → read_head AsSalvage s p gs x ≡ frame f
+salvage_head : (s : List ℕ) (p : ℕ) (gs : List Segment) (x : Result DssHeader Refused) (f : Frame) → read_head AsReader s p gs x ≡ frame f → read_head AsSalvage s p gs x ≡ frame f
 unfolding absorb
-salvage_head s p gs (Refuses r) f e = e
-salvage_head s p gs (Head h) f e = go (ltb (be16 s p) 6) (eqb (be16 s p) 65535) _ e
+salvage_head s p gs (Err r) f e = e
+salvage_head s p gs (Ok h) f e = go (ltb (be16 s p) 6) (eqb (be16 s p) 65535) _ e
   where
     go : (a b : Bool) (r : Read) → pick a r (pick b (frame (record { head = h; segments = gs })) (absorb_fuel (length s) AsReader s p h gs)) ≡ frame f
         → pick a r (pick b (frame (record { head = h; segments = gs })) (absorb_fuel (length s) AsSalvage s p h gs)) ≡ frame f

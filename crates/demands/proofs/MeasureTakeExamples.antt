@@ -1,4 +1,5 @@
 -- W-208: cases of document 01 that meet what Kept's lines ask, computed over the contracts; and what `MeasuresThenTakes` rules out.
+use Rattle.std.specs.Prelude.{Result, Ok, Err}
 use Prim.Native.Nat.{ℕ}
 use native.Mathlib.Omega.{arith}
 use mathlib.Core.Path.{◌≡◌, refl, sym, ap, ◌∙◌}
@@ -16,11 +17,7 @@ use Rattle.dss_frame.specs.declared.Rules.TheVariants.{Reader, Salvage}
 use Rattle.dss_frame.specs.Segments.{payload_of, end_of, frame_walk, continuations, walk_fuel}
 use Rattle.dss_frame.specs.Reading.{read_at, absorb, absorb_fuel, look, position_left}
 use Rattle.dss_measure.specs.Measure.{measured_at}
-use Rattle.dss_measure.specs.declared.Extent.{Extent}
-use Rattle.dss_measure.specs.declared.Extent.TheVariants.{Frame as Spans}
 use Rattle.dss_measure.specs.declared.FrameMeasure.{FrameMeasure}
-use Rattle.dss_measure.specs.declared.Measured.{Measured}
-use Rattle.dss_measure.specs.declared.Measured.TheVariants.{Frame as Gives, Refused as Refuses}
 use Rattle.dss_take.specs.Take.{payload_at}
 use Rattle.dss_reader.specs.Reader.{stands_at, read_of}
 use Rattle.gateway_measure.specs.MeasureWords.{rules_of}
@@ -32,6 +29,8 @@ use Rattle.demands.proofs.KeptRequests.{taken_as_measured, taken_by_run_alone, e
 use Rattle.demands.specs.KeptMeaning.{RefusedInWords}
 use Rattle.demands.proofs.KeptExamples.{lending, lending_room}
 use Rattle.demands.proofs.StretchExamples.{p9}
+use Rattle.dss_measure.specs.declared.Extent.{Extent}
+use Rattle.dss_measure.specs.Measure.{extent}
 
 -- of P9, whose second segment the first absorbs: two segments, position 14; so much is said to be its payload's length
 abbrev measured : ℕ → FrameMeasure
@@ -48,49 +47,49 @@ magic = record { why = InvalidMagic 0; place = 6 }
 -- ---- in Rattle
 
 -- measured, then taken into a room of just that length; of one byte less; and P8, which the reader's rules refuse
-pub exactly : (κs : Lfts 1) (κs' : Lfts 2) → TakenAs (Gives (measured 2)) (payload_at Reader p9 0) 0 (9 ∷ 9 ∷ []) (Gives (measured 2)) (0xAA ∷ 0xBB ∷ [])
+pub exactly : (κs : Lfts 1) (κs' : Lfts 2) → TakenAs (Ok (measured 2)) (payload_at Reader p9 0) 0 (9 ∷ 9 ∷ []) (Ok (measured 2)) (0xAA ∷ 0xBB ∷ [])
 unfolding measured_at splice laid read_at absorb absorb_fuel look payload_of end_of frame_walk continuations walk_fuel
-exactly κs κs' = taken_as_measured Reader (lending p9) 0 κs κs' (Gives (measured 2)) (lending_room (9 ∷ 9 ∷ [])) (Gives (measured 2)) (0xAA ∷ 0xBB ∷ []) refl (record { answers = refl; room_is = refl })
+exactly κs κs' = taken_as_measured Reader (lending p9) 0 κs κs' (Ok (measured 2)) (lending_room (9 ∷ 9 ∷ [])) (Ok (measured 2)) (0xAA ∷ 0xBB ∷ []) refl (record { answers = refl; room_is = refl })
 
-pub one_less : (κs : Lfts 1) (κs' : Lfts 2) → TakenAs (Gives (measured 2)) (payload_at Reader p9 0) 0 (9 ∷ []) (Refuses (no_room 0 2 0)) (9 ∷ [])
+pub one_less : (κs : Lfts 1) (κs' : Lfts 2) → TakenAs (Ok (measured 2)) (payload_at Reader p9 0) 0 (9 ∷ []) (Err (no_room 0 2 0)) (9 ∷ [])
 unfolding measured_at splice laid read_at absorb absorb_fuel look payload_of end_of frame_walk continuations walk_fuel
-one_less κs κs' = taken_as_measured Reader (lending p9) 0 κs κs' (Gives (measured 2)) (lending_room (9 ∷ [])) (Refuses (no_room 0 2 0)) (9 ∷ []) refl (record { answers = refl; room_is = refl })
+one_less κs κs' = taken_as_measured Reader (lending p9) 0 κs κs' (Ok (measured 2)) (lending_room (9 ∷ [])) (Err (no_room 0 2 0)) (9 ∷ []) refl (record { answers = refl; room_is = refl })
 
-pub refused_alike : (κs : Lfts 1) (κs' : Lfts 2) → TakenAs (Refuses magic) (payload_at Reader p8 0) 0 (9 ∷ []) (Refuses magic) (9 ∷ [])
+pub refused_alike : (κs : Lfts 1) (κs' : Lfts 2) → TakenAs (Err magic) (payload_at Reader p8 0) 0 (9 ∷ []) (Err magic) (9 ∷ [])
 unfolding measured_at splice laid read_at absorb absorb_fuel look payload_of end_of frame_walk continuations walk_fuel
-refused_alike κs κs' = taken_as_measured Reader (lending p8) 0 κs κs' (Refuses magic) (lending_room (9 ∷ [])) (Refuses magic) (9 ∷ []) refl (record { answers = refl; room_is = refl })
+refused_alike κs κs' = taken_as_measured Reader (lending p8) 0 κs κs' (Err magic) (lending_room (9 ∷ [])) (Err magic) (9 ∷ []) refl (record { answers = refl; room_is = refl })
 
 pub not_taken : (κs : Lfts 2) → ◌≡◌ {A = List ℕ} (9 ∷ []) (9 ∷ [])
 unfolding splice laid read_at absorb absorb_fuel look payload_of end_of frame_walk continuations walk_fuel
 not_taken κs = take_refused κs (lending_room (9 ∷ [])) (no_room 0 2 0) (9 ∷ []) Reader (lending p9) 0 (record { answers = refl; room_is = refl })
 
 -- into two rooms, of which one is longer and holds other bytes; one that is too short beside it; and two that are too short
-pub two_rooms : (κs κs' : Lfts 2) → ByRunAlone 0 (Gives (measured 2)) (0xAA ∷ 0xBB ∷ []) (Gives (measured 2)) (0xAA ∷ 0xBB ∷ 8 ∷ [])
+pub two_rooms : (κs κs' : Lfts 2) → ByRunAlone 0 (Ok (measured 2)) (0xAA ∷ 0xBB ∷ []) (Ok (measured 2)) (0xAA ∷ 0xBB ∷ 8 ∷ [])
 unfolding splice laid read_at absorb absorb_fuel look payload_of end_of frame_walk continuations walk_fuel
 two_rooms κs κs' =
-    taken_by_run_alone Reader (lending p9) 0 κs κs' (lending_room (9 ∷ 9 ∷ [])) (lending_room (8 ∷ 8 ∷ 8 ∷ [])) (Gives (measured 2)) (Gives (measured 2)) (0xAA ∷ 0xBB ∷ []) (0xAA ∷ 0xBB ∷ 8 ∷ [])
+    taken_by_run_alone Reader (lending p9) 0 κs κs' (lending_room (9 ∷ 9 ∷ [])) (lending_room (8 ∷ 8 ∷ 8 ∷ [])) (Ok (measured 2)) (Ok (measured 2)) (0xAA ∷ 0xBB ∷ []) (0xAA ∷ 0xBB ∷ 8 ∷ [])
     (record { answers = refl; room_is = refl }) (record { answers = refl; room_is = refl })
 
-pub one_too_short : (κs κs' : Lfts 2) → ByRunAlone 0 (Refuses (no_room 0 2 0)) (9 ∷ []) (Gives (measured 2)) (0xAA ∷ 0xBB ∷ [])
+pub one_too_short : (κs κs' : Lfts 2) → ByRunAlone 0 (Err (no_room 0 2 0)) (9 ∷ []) (Ok (measured 2)) (0xAA ∷ 0xBB ∷ [])
 unfolding splice laid read_at absorb absorb_fuel look payload_of end_of frame_walk continuations walk_fuel
 one_too_short κs κs' =
-    taken_by_run_alone Reader (lending p9) 0 κs κs' (lending_room (9 ∷ [])) (lending_room (9 ∷ 9 ∷ [])) (Refuses (no_room 0 2 0)) (Gives (measured 2)) (9 ∷ []) (0xAA ∷ 0xBB ∷ [])
+    taken_by_run_alone Reader (lending p9) 0 κs κs' (lending_room (9 ∷ [])) (lending_room (9 ∷ 9 ∷ [])) (Err (no_room 0 2 0)) (Ok (measured 2)) (9 ∷ []) (0xAA ∷ 0xBB ∷ [])
     (record { answers = refl; room_is = refl }) (record { answers = refl; room_is = refl })
 
-pub both_too_short : (κs κs' : Lfts 2) → ByRunAlone 0 (Refuses (no_room 0 2 0)) (9 ∷ []) (Refuses (no_room 0 2 0)) []
+pub both_too_short : (κs κs' : Lfts 2) → ByRunAlone 0 (Err (no_room 0 2 0)) (9 ∷ []) (Err (no_room 0 2 0)) []
 unfolding splice laid read_at absorb absorb_fuel look payload_of end_of frame_walk continuations walk_fuel
 both_too_short κs κs' =
-    taken_by_run_alone Reader (lending p9) 0 κs κs' (lending_room (9 ∷ [])) (lending_room []) (Refuses (no_room 0 2 0)) (Refuses (no_room 0 2 0)) (9 ∷ []) []
+    taken_by_run_alone Reader (lending p9) 0 κs κs' (lending_room (9 ∷ [])) (lending_room []) (Err (no_room 0 2 0)) (Err (no_room 0 2 0)) (9 ∷ []) []
     (record { answers = refl; room_is = refl }) (record { answers = refl; room_is = refl })
 
-pub spans : (κs κs' : Lfts 1) → ◌≡◌ {A = Extent} (Spans 2 14) (Spans 2 14)
+pub spans : (κs κs' : Lfts 1) → ◌≡◌ {A = Result Extent Refused} (Ok (extent 2 14)) (Ok (extent 2 14))
 unfolding measured_at read_at absorb absorb_fuel look payload_of end_of frame_walk continuations walk_fuel
-spans κs κs' = extent_as_measured Reader (lending p9) 0 κs κs' (Gives (measured 2)) (Spans 2 14) refl refl
+spans κs κs' = extent_as_measured Reader (lending p9) 0 κs κs' (Ok (measured 2)) (Ok (extent 2 14)) refl refl
 
-pub next_taken : (κs κs' : Lfts 2) → (read_of 0 (Gives (measured 2)) ≡ read_of 0 (Gives (measured 2))) × (◌≡◌ {A = List ℕ} (0xAA ∷ 0xBB ∷ []) (0xAA ∷ 0xBB ∷ []))
+pub next_taken : (κs κs' : Lfts 2) → (read_of 0 (Ok (measured 2)) ≡ read_of 0 (Ok (measured 2))) × (◌≡◌ {A = List ℕ} (0xAA ∷ 0xBB ∷ []) (0xAA ∷ 0xBB ∷ []))
 unfolding splice laid read_at absorb absorb_fuel look payload_of end_of frame_walk continuations walk_fuel
 next_taken κs κs' =
-    next_frame_as_taken κs κs' (stands_at 0) (lending p9) (lending_room (9 ∷ 9 ∷ [])) (read_of 0 (Gives (measured 2))) (0xAA ∷ 0xBB ∷ []) (Gives (measured 2)) (0xAA ∷ 0xBB ∷ [])
+    next_frame_as_taken κs κs' (stands_at 0) (lending p9) (lending_room (9 ∷ 9 ∷ [])) (read_of 0 (Ok (measured 2))) (0xAA ∷ 0xBB ∷ []) (Ok (measured 2)) (0xAA ∷ 0xBB ∷ [])
     (record { answers = refl; room_is = refl }) (record { answers = refl; room_is = refl })
 
 -- `0006D1020007`: 2 at its own first byte
@@ -161,24 +160,24 @@ next_taken_in_words κs κs' =
 
 -- ---- what is ruled out, of any measuring and taking
 
-module _ (measure : Rules → List ℕ → ℕ → Measured) (answer : Rules → List ℕ → ℕ → List ℕ → Measured) (after : Rules → List ℕ → ℕ → List ℕ → List ℕ) (w : MeasuresThenTakes measure answer after) where
+module _ (measure : Rules → List ℕ → ℕ → Result FrameMeasure Refused) (answer : Rules → List ℕ → ℕ → List ℕ → Result FrameMeasure Refused) (after : Rules → List ℕ → ℕ → List ℕ → List ℕ) (w : MeasuresThenTakes measure answer after) where
   -- measuring asks for a byte too many
-  pub no_spare : measure Reader p9 0 ≡ Gives (measured 3) → answer Reader p9 0 (9 ∷ 9 ∷ 9 ∷ []) ≡ Gives (measured 2) → ⊥
+  pub no_spare : measure Reader p9 0 ≡ Ok (measured 3) → answer Reader p9 0 (9 ∷ 9 ∷ 9 ∷ []) ≡ Ok (measured 2) → ⊥
   no_spare e k =
       let t = (w.takes Reader p9 0 (9 ∷ 9 ∷ 9 ∷ [])).enough (measured 3) e (omega arith) in
       let z : ◌≡◌ {A = ℕ} 3 2 = ap (λ (m : FrameMeasure). m.payload_len) (gives_same (measured 3) (measured 2) (sym t.0 ∙ k)) in
       omega arith
 
   -- taking fills what room there is, and calls it done
-  pub no_cut : (m : FrameMeasure) → measure Reader p9 0 ≡ Gives (measured 2) → answer Reader p9 0 (9 ∷ []) ≡ Gives m → ⊥
+  pub no_cut : (m : FrameMeasure) → measure Reader p9 0 ≡ Ok (measured 2) → answer Reader p9 0 (9 ∷ []) ≡ Ok m → ⊥
   no_cut m e k = gives_refuses m (no_room 0 2 0) (sym k ∙ ((w.takes Reader p9 0 (9 ∷ [])).short (measured 2) e (omega arith)).0)
 
   -- taking says 9 to a room of the measured length
-  pub no_more : (why : Refused) → measure Reader p9 0 ≡ Gives (measured 2) → answer Reader p9 0 (9 ∷ 9 ∷ []) ≡ Refuses why → ⊥
+  pub no_more : (why : Refused) → measure Reader p9 0 ≡ Ok (measured 2) → answer Reader p9 0 (9 ∷ 9 ∷ []) ≡ Err why → ⊥
   no_more why e k = gives_refuses (measured 2) why (sym ((w.takes Reader p9 0 (9 ∷ 9 ∷ [])).enough (measured 2) e (omega arith)).0 ∙ k)
 
   -- taking lays nothing down, or what it lays down depends on what the room held
-  pub no_idle : measure Reader p9 0 ≡ Gives (measured 2) → after Reader p9 0 (9 ∷ 9 ∷ []) ≡ 9 ∷ 9 ∷ [] → after Reader p9 0 (8 ∷ 8 ∷ []) ≡ 8 ∷ 8 ∷ [] → ⊥
+  pub no_idle : measure Reader p9 0 ≡ Ok (measured 2) → after Reader p9 0 (9 ∷ 9 ∷ []) ≡ 9 ∷ 9 ∷ [] → after Reader p9 0 (8 ∷ 8 ∷ []) ≡ 8 ∷ 8 ∷ [] → ⊥
   no_idle e i j =
       let t = w.takes Reader p9 0 (9 ∷ 9 ∷ []) in
       let u = w.takes Reader p9 0 (8 ∷ 8 ∷ []) in
@@ -187,9 +186,9 @@ module _ (measure : Rules → List ℕ → ℕ → Measured) (answer : Rules →
       omega arith
 
   -- measuring by salvage's rules refuses the head behind the frame, as the reader's do
-  pub no_other : measure Salvage p8 0 ≡ Refuses magic → ⊥
+  pub no_other : measure Salvage p8 0 ≡ Err magic → ⊥
   no_other e = let z : ◌≡◌ {A = ℕ} 6 0 = w.own_head p8 0 magic e in omega arith
 
   -- measuring says 9
-  pub no_nine : measure Reader p9 0 ≡ Refuses (no_room 0 2 0) → ⊥
+  pub no_nine : measure Reader p9 0 ≡ Err (no_room 0 2 0) → ⊥
   no_nine e = w.all_but_9 Reader p9 0 (no_room 0 2 0) e refl

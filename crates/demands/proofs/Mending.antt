@@ -1,4 +1,5 @@
 -- 16 is exactly what no further bytes can mend: a walk that is short is whole with some bytes more, by what it is short of.
+use Rattle.std.specs.Prelude.{Result}
 use Prim.Native.Nat.{ℕ, zero, suc, ◌+◌, ◌-◌, ◌≤◌, ◌<◌}
 use native.Mathlib.Omega.{arith}
 use mathlib.Core.Path.{◌≡◌, refl, sym, ap, ◌∙◌}
@@ -17,7 +18,6 @@ use Rattle.answer.specs.declared.Refused.{Refused}
 use Rattle.dss_head.specs.Heads.{head_at}
 use Rattle.dss_head.specs.declared.Chunk.{Chunk}
 use Rattle.dss_head.specs.declared.Chunk.TheVariants.{Dead, Last, Full}
-use Rattle.dss_head.specs.declared.HeadFound.{HeadFound}
 use Rattle.dss_frame.specs.Rules.{chunk_under}
 use Rattle.dss_frame.specs.declared.Rules.{Rules}
 use Rattle.dss_frame.specs.Segments.{Segment, Walk, whole, short, dead, behind, continuation, first, step, continuations, frame_walk}
@@ -27,6 +27,7 @@ use Rattle.dss_laws.proofs.Continuations.{continuations_step, continuations_last
 use Rattle.demands.specs.Mending.{waits, Mended, StopsWaiting}
 use Rattle.demands.proofs.LongerRuns.{HeadSays, finds, refuses_head, head_says, walk_few}
 use Rattle.demands.proofs.Longer.{On, on_frame, on_refused, absorb_on, head_refuses, same_refused, refusals_stay, dead_stays}
+use Rattle.dss_head.specs.declared.DssHeader.{DssHeader}
 
 -- ---- bytes that make a walk whole
 
@@ -215,7 +216,7 @@ module _ (rules : Rules) where
 -- ---- what is read
 
 -- a whole frame is handed out, or a head is refused
-head_settles : (rules : Rules) (s : List ℕ) (p : ℕ) (gs : List Segment) (x : HeadFound) → HeadSays p x → waits (read_head rules s p gs x) ≡ false
+head_settles : (rules : Rules) (s : List ℕ) (p : ℕ) (gs : List Segment) (x : Result DssHeader Refused) → HeadSays p x → waits (read_head rules s p gs x) ≡ false
 unfolding absorb
 head_settles rules s p gs x (refuses_head r n k) = head_refuses r n
 head_settles rules s p gs x (finds h) =

@@ -1,5 +1,6 @@
 -- Document 02, W-210: requests that want no reply, computed. Which types an object, or one of its own type, is absorbed behind; both
 -- sides of the types' edges; a frame of type 5 at real sizes. And what a spoilt head is, as a statement about any reading of heads.
+use Rattle.std.specs.Prelude.{Ok, Err}
 use Prim.Native.Nat.{ℕ}
 use mathlib.Core.Path.{◌≡◌, refl}
 use mathlib.Core.Bool.{true, false}
@@ -10,7 +11,6 @@ use Rattle.answer.specs.declared.Refusal.TheVariants.{InvalidDssType}
 use Rattle.dss_head.specs.Heads.{type_at}
 use Rattle.dss_head.specs.declared.DssType.{DssType}
 use Rattle.dss_head.specs.declared.DssType.TheVariants.{Request, Reply, Object, Communication, NoReply}
-use Rattle.dss_head.specs.declared.TypeFound.TheVariants.{Is, Refused as NoType}
 use Rattle.dss_frame.specs.Segments.{payload_of, end_of, frame_walk, continuations, walk_fuel}
 use Rattle.dss_frame.specs.Reading.{follows, read_at, absorb, absorb_fuel, look}
 use Rattle.dss_frame.specs.Salvage.{salvaged, salvage_fuel}
@@ -36,11 +36,11 @@ pairs = refl
 
 -- ---- "3 narrows accordingly": 1 and 5 are types, 0, 6 and 15 aren't; the high four bits say nothing
 
-pub edges : (type_at 0x10 0 ≡ NoType (record { why = InvalidDssType 0; place = 0 }))
-    × (type_at 0x01 0 ≡ Is Request)
-    × (type_at 0xF5 0 ≡ Is NoReply)
-    × (type_at 0xF6 0 ≡ NoType (record { why = InvalidDssType 6; place = 0 }))
-    × (type_at 0x0F 0 ≡ NoType (record { why = InvalidDssType 15; place = 0 }))
+pub edges : (type_at 0x10 0 ≡ Err (record { why = InvalidDssType 0; place = 0 }))
+    × (type_at 0x01 0 ≡ Ok Request)
+    × (type_at 0xF5 0 ≡ Ok NoReply)
+    × (type_at 0xF6 0 ≡ Err (record { why = InvalidDssType 6; place = 0 }))
+    × (type_at 0x0F 0 ≡ Err (record { why = InvalidDssType 15; place = 0 }))
 edges = (refl, refl, refl, refl, refl)
 
 -- ---- frames, as `next_frame` answers

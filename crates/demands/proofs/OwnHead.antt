@@ -1,4 +1,5 @@
 -- W-208: under salvage's rules no head is refused but the frame's own, so that every refusal leaves the position where it was.
+use Rattle.std.specs.Prelude.{Result, Ok, Err}
 use Prim.Native.Nat.{ℕ, zero, suc, ◌-◌}
 use mathlib.Core.Path.{◌≡◌, refl, sym, subst}
 use mathlib.Core.Bool.{Bool}
@@ -15,12 +16,9 @@ use Rattle.dss_head.specs.Heads.{head_at}
 use Rattle.dss_head.proofs.HeadLaws.{moved_to, head_placed}
 use Rattle.dss_head.specs.declared.DssType.{DssType}
 use Rattle.dss_head.specs.declared.DssHeader.{DssHeader}
-use Rattle.dss_head.specs.declared.HeadFound.{HeadFound}
-use Rattle.dss_head.specs.declared.HeadFound.TheVariants.{Head, Refused as NoHead}
 use Rattle.dss_frame.specs.declared.Rules.TheVariants.{Salvage}
 use Rattle.dss_frame.specs.Segments.{Segment, Walk, whole, short, dead, payload_of, end_of, frame_walk}
 use Rattle.dss_frame.specs.Reading.{Look, finished, absorbs, refuses, look, look_at, follows, own_object, starts_extended, Read, frame, refused, behind_frame, absorb_fuel, absorb, read_head, read_walk, read_at, position_left}
-use Rattle.dss_measure.specs.declared.Measured.TheVariants.{Refused as Refuses}
 use Rattle.dss_measure.specs.Measure.{measured_at}
 use Rattle.dss_measure.proofs.Measures.{measured_not}
 
@@ -39,9 +37,9 @@ Quiet finished = Unit
 Quiet (absorbs g c) = Unit
 Quiet (refuses r) = ⊥
 
-quiet_at : (s : List ℕ) (t : DssType) (x : Bool) (q : ℕ) (f : HeadFound) → Quiet (look_at Salvage s t x q f)
-quiet_at s t x q (NoHead r) = tt
-quiet_at s t x q (Head h) =
+quiet_at : (s : List ℕ) (t : DssType) (x : Bool) (q : ℕ) (f : Result DssHeader Refused) → Quiet (look_at Salvage s t x q f)
+quiet_at s t x q (Err r) = tt
+quiet_at s t x q (Ok h) =
     pick_by Quiet (eqb (be16 s q) 65535) _ _ (λ _. tt)
     (λ _. pick_by Quiet h.flags.same_correlation _ _
     (λ _. pick_by Quiet (follows t h.dss_type) _ _
@@ -70,10 +68,10 @@ absorb_stays (suc k) s p h gs =
 
 -- ---- the frame's own head is at p
 
-head_stays : (s : List ℕ) (p : ℕ) (gs : List Segment) (f : HeadFound) → Stays p (read_head Salvage s p gs (moved_to p f))
+head_stays : (s : List ℕ) (p : ℕ) (gs : List Segment) (f : Result DssHeader Refused) → Stays p (read_head Salvage s p gs (moved_to p f))
 unfolding absorb
-head_stays s p gs (NoHead r) = at_place p r.why
-head_stays s p gs (Head h) =
+head_stays s p gs (Err r) = at_place p r.why
+head_stays s p gs (Ok h) =
     pick_by (Stays p) (ltb (be16 s p) 6) _ _ (λ _. at_place p (LengthTooShort (be16 s p)))
     (λ _. pick_by (Stays p) (eqb (be16 s p) 65535) _ _ (λ _. tt) (λ _. absorb_stays (length s) s p h gs))
 
@@ -84,7 +82,7 @@ read_stays s p = pick_by (Stays p) (leb p (length s)) _ _ (λ _. by_walk (frame_
     by_walk : (w : Walk) → Stays p (read_walk Salvage s p w)
     by_walk short = at_place p Incomplete
     by_walk (dead q) = refl
-    by_walk (whole gs) = subst (λ (f : HeadFound). Stays p (read_head Salvage s p gs f)) (sym (head_placed s p)) (head_stays s p gs (head_at (drop p s) 0))
+    by_walk (whole gs) = subst (λ (f : Result DssHeader Refused). Stays p (read_head Salvage s p gs f)) (sym (head_placed s p)) (head_stays s p gs (head_at (drop p s) 0))
 
-pub own_head : (s : List ℕ) (p : ℕ) (why : Refused) → measured_at Salvage s p ≡ Refuses why → position_left p why ≡ p
+pub own_head : (s : List ℕ) (p : ℕ) (why : Refused) → measured_at Salvage s p ≡ Err why → position_left p why ≡ p
 own_head s p why e = subst (Stays p) (measured_not Salvage s p why e) (read_stays s p)

@@ -1,5 +1,6 @@
 -- Demand 3 over the contract of `salvage` itself, and what that contract says of every run. It is a function over a row of
 -- records: its own clause is named, and in any model of the logic it entails the fact.
+use Rattle.std.specs.Prelude.{Result, Ok, Err}
 use Prim.Native.Nat.{ℕ, ◌≤◌}
 use native.Mathlib.Omega.{arith}
 use mathlib.Core.Path.{◌≡◌, sym, ap, subst, ◌∙◌}
@@ -23,8 +24,6 @@ use Rattle.dss_frame.specs.Written.{written}
 use Rattle.dss_salvage.specs.SalvageEntries.{salvaged_bytes, salvaged_row}
 use Rattle.dss_salvage_call.specs.SalvageCall.{entries_fit, SalvagesRun}
 use Rattle.dss_salvage.specs.declared.SalvageEntry.{SalvageEntry}
-use Rattle.dss_salvage.specs.declared.Salvaged.{Salvaged}
-use Rattle.dss_salvage.specs.declared.Salvaged.TheVariants.{Done, Refused as NotSalvaged}
 use Rattle.dss_salvage_call.specs.contracts.salvage as salvage
 use Rattle.demands.specs.Demands.{Item, run, Covered}
 use Rattle.demands.specs.Stretches.{EntriesStood}
@@ -32,6 +31,8 @@ use Rattle.demands.proofs.Covering.{covers}
 use Rattle.demands.proofs.StretchCalls.{entries_listed}
 use Rattle.demands.specs.KeptLists.{all_bytes, Recovered}
 use Rattle.demands.proofs.SalvageKeeps.{recovers}
+use Rattle.dss_salvage.specs.declared.Salvaging.{Salvaging}
+use Rattle.dss_salvage.specs.inner.SalvageMeasure.{counted}
 
 -- ---- of every run
 
@@ -48,7 +49,7 @@ pub record Listed (s room : List ℕ) (row : List SalvageEntry) (count bytes tai
   pub stood : EntriesStood s roomAfter 0 tail (take count rowAfter)
 
 pub lists : (s room : List ℕ) (row : List SalvageEntry) (count bytes tail : ℕ) (roomAfter : List ℕ) (rowAfter : List SalvageEntry)
-    → SalvagesRun s room row (Done count bytes tail) roomAfter rowAfter → Listed s room row count bytes tail roomAfter rowAfter
+    → SalvagesRun s room row (Ok (counted count bytes tail)) roomAfter rowAfter → Listed s room row count bytes tail roomAfter rowAfter
 lists s room row count bytes tail roomAfter rowAfter p =
     let es : List Entry = (salvaged s).entries in
     picked (entries_fit s es (length room) (length row)) (sym p.answers)
@@ -67,7 +68,7 @@ lists s room row count bytes tail roomAfter rowAfter p =
 
 -- "the one refusal of the call is 9", and it leaves room and row as they were
 pub refuses : (s room : List ℕ) (row : List SalvageEntry) (r : Refused) (roomAfter : List ℕ) (rowAfter : List SalvageEntry)
-    → SalvagesRun s room row (NotSalvaged r) roomAfter rowAfter → (number_of r.why ≡ 9) × (r.place ≡ 0) × (roomAfter ≡ room) × (rowAfter ≡ row)
+    → SalvagesRun s room row (Err r) roomAfter rowAfter → (number_of r.why ≡ 9) × (r.place ≡ 0) × (roomAfter ≡ room) × (rowAfter ≡ row)
 refuses s room row r roomAfter rowAfter p =
     let es : List Entry = (salvaged s).entries in
     picked (entries_fit s es (length room) (length row)) (sym p.answers)
@@ -78,20 +79,20 @@ refuses s room row r roomAfter rowAfter p =
 
 module _ {M : Type 1} {𝓤 : Ura M} (𝓛 : Logic 𝓤) (mem : Memory → SProp 𝓤) (routines : Routine → Fun 𝓤) (κs : Lfts 3) (s : Bor (List ℕ)) (room : MutBor (List ℕ)) (row : MutBor (List SalvageEntry)) (roomAfter : List ℕ) (rowAfter : List SalvageEntry) where
   -- what the contract of `salvage` says of an answer, with the room and the row as they then are
-  abbrev pub Ensured : Salvaged → SProp 𝓤
+  abbrev pub Ensured : Result Salvaging Refused → SProp 𝓤
   Ensured r = (salvage.clauses 𝓛 mem routines κs (s, (room, (row, tt)))).ensures tt r (s, (at_last room roomAfter, (at_last row rowAfter, tt)))
 
   -- Demand 3: on a run of written frames, some of them spoilt, with enough room and row.
-  pub salvage_recovers : (items : List (Item written)) → s.now ≡ run items → length (all_bytes items) ≤ length room.now → length items ≤ length row.now → (r : Salvaged)
+  pub salvage_recovers : (items : List (Item written)) → s.now ≡ run items → length (all_bytes items) ≤ length room.now → length items ≤ length row.now → (r : Result Salvaging Refused)
       → ent 𝓤 (Ensured r) (fact 𝓤 (Recovered items room.now row.now r roomAfter rowAfter))
   salvage_recovers items e h k r =
       fact_mono 𝓤 _ _ (λ p. recovers items room.now row.now h k r roomAfter rowAfter (subst (λ (b : List ℕ). SalvagesRun b room.now row.now r roomAfter rowAfter) e p))
 
   -- Every run.
   pub salvage_lists : (count bytes tail : ℕ)
-      → ent 𝓤 (Ensured (Done count bytes tail)) (fact 𝓤 (Listed s.now room.now row.now count bytes tail roomAfter rowAfter))
+      → ent 𝓤 (Ensured (Ok (counted count bytes tail))) (fact 𝓤 (Listed s.now room.now row.now count bytes tail roomAfter rowAfter))
   salvage_lists count bytes tail = fact_mono 𝓤 _ _ (λ p. lists s.now room.now row.now count bytes tail roomAfter rowAfter p)
 
   pub salvage_refuses : (r : Refused)
-      → ent 𝓤 (Ensured (NotSalvaged r)) (fact 𝓤 ((number_of r.why ≡ 9) × (r.place ≡ 0) × (roomAfter ≡ room.now) × (rowAfter ≡ row.now)))
+      → ent 𝓤 (Ensured (Err r)) (fact 𝓤 ((number_of r.why ≡ 9) × (r.place ≡ 0) × (roomAfter ≡ room.now) × (rowAfter ≡ row.now)))
   salvage_refuses r = fact_mono 𝓤 _ _ (λ p. refuses s.now room.now row.now r roomAfter rowAfter p)

@@ -1,5 +1,6 @@
 -- What demand 3 says of the salvage call: whatever result, room and row its contract allows on a run of written frames, some of
 -- them spoilt, with enough room.
+use Rattle.std.specs.Prelude.{Result, Ok}
 use Prim.Native.Nat.{ℕ, suc, ◌+◌, ◌≤◌}
 use native.Mathlib.Omega.{arith}
 use mathlib.Core.Path.{◌≡◌, refl, ap, ap₂, ◌∙◌}
@@ -16,12 +17,13 @@ use Rattle.dss_frame.specs.FrameRecords.{read_bytes}
 use Rattle.dss_salvage.specs.SalvageEntries.{salvaged_bytes}
 use Rattle.dss_salvage_call.specs.SalvageCall.{entries_fit, SalvagesRun}
 use Rattle.dss_salvage.specs.declared.SalvageEntry.{SalvageEntry}
-use Rattle.dss_salvage.specs.declared.Salvaged.{Salvaged}
-use Rattle.dss_salvage.specs.declared.Salvaged.TheVariants.{Done}
 use Rattle.demands.specs.Demands.{Item, good, spoilt, run, DueRead, AllDue}
 use Rattle.demands.specs.Demands
 use Rattle.demands.proofs.Salvaging.{salvages}
 use Rattle.demands.specs.KeptLists.{Recovered, all_bytes, due_bytes}
+use Rattle.answer.specs.declared.Refused.{Refused}
+use Rattle.dss_salvage.specs.declared.Salvaging.{Salvaging}
+use Rattle.dss_salvage.specs.inner.SalvageMeasure.{counted}
 
 pub due_bytes_lem : (s : List ℕ) (p : ℕ) (i : Item written) (x : Read) → DueRead s p i x → read_bytes s x ≡ due_bytes i
 due_bytes_lem s p (good f _ _) (frame g) d = d.payload
@@ -39,7 +41,7 @@ all_bytes_lem s p (i ∷ is) (e ∷ es) d =
     (ap₂ (λ (x y : List ℕ). x ++ y) (due_bytes_lem s p i e.read d.0.read) b.0, ap suc b.1)
 
 pub recovers : (items : List (Item written)) (room : List ℕ) (row : List SalvageEntry) → length (all_bytes items) ≤ length room → length items ≤ length row
-    → (r : Salvaged) (roomAfter : List ℕ) (rowAfter : List SalvageEntry)
+    → (r : Result Salvaging Refused) (roomAfter : List ℕ) (rowAfter : List SalvageEntry)
     → SalvagesRun (run items) room row r roomAfter rowAfter → Recovered items room row r roomAfter rowAfter
 recovers items room row h k r roomAfter rowAfter p =
     let s : List ℕ = run items in
@@ -54,17 +56,17 @@ recovers items room row h k r roomAfter rowAfter p =
       is =
           p.answers
           ∙ pick_yes _ _ fit
-          ∙ ap₂ (λ (n m : ℕ). Done n m x.tail) e.1 (ap length e.0)
-          ∙ ap (Done (length items) (length (all_bytes items))) d.1;
+          ∙ ap₂ (λ (n m : ℕ). Ok (counted n m x.tail)) e.1 (ap length e.0)
+          ∙ ap (⟪Done⟫ (length items) (length (all_bytes items))) d.1;
       room_is = p.room_is ∙ pick_yes _ _ fit ∙ ap (splice room 0) e.0;
       row_is = p.row_is ∙ pick_yes _ _ fit;
     }
 
 -- so in numbers, where the numbers of the items are known
 pub answered : (items : List (Item written)) (count bytes long : ℕ) → (length items ≡ count) × (length (all_bytes items) ≡ bytes) × (length (run items) ≡ long)
-    → (room : List ℕ) (row : List SalvageEntry) → bytes ≤ length room → count ≤ length row → (r : Salvaged) (roomAfter : List ℕ) (rowAfter : List SalvageEntry)
-    → SalvagesRun (run items) room row r roomAfter rowAfter → r ≡ Done count bytes long
+    → (room : List ℕ) (row : List SalvageEntry) → bytes ≤ length room → count ≤ length row → (r : Result Salvaging Refused) (roomAfter : List ℕ) (rowAfter : List SalvageEntry)
+    → SalvagesRun (run items) room row r roomAfter rowAfter → r ≡ Ok (counted count bytes long)
 answered items count bytes long e room row h k r roomAfter rowAfter p =
     (recovers items room row (omega (arith, e)) (omega (arith, e)) r roomAfter rowAfter p).is
-    ∙ ap₂ (λ (n m : ℕ). Done n m (length (run items))) e.0 e.1
-    ∙ ap (Done count bytes) e.2
+    ∙ ap₂ (λ (n m : ℕ). Ok (counted n m (length (run items)))) e.0 e.1
+    ∙ ap (⟪Done⟫ count bytes) e.2

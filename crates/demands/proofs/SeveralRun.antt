@@ -1,5 +1,6 @@
 -- A run of a small frame, a spoilt one of several segments, and a good one of several segments, which stands by itself for that: the
 -- premises of demand 3 are met, and what salvage hands out, by computation at the real sizes.
+use Rattle.std.specs.Prelude.{Result, Ok}
 use Prim.Native.Nat.{ℕ, zero, suc, ◌+◌, ◌*◌, ◌≤◌, ◌<◌}
 use native.Mathlib.Omega.{arith}
 use native.Mathlib.Decide.{dec_le}
@@ -18,12 +19,13 @@ use Rattle.dss_frame.specs.Reading.{frame, refused, read_at, absorb, absorb_fuel
 use Rattle.dss_frame.specs.Salvage.{salvaged, salvage_fuel}
 use Rattle.dss_frame.specs.Written.{Sent, written, chunks, chunks_fuel}
 use Rattle.dss_salvage.specs.declared.SalvageEntry.{SalvageEntry}
-use Rattle.dss_salvage.specs.declared.Salvaged.{Salvaged}
-use Rattle.dss_salvage.specs.declared.Salvaged.TheVariants.{Done}
 use Rattle.demands.specs.Demands.{Sendable, Spoilt, LengthField, Item, good, spoilt, run, AllDue}
 use Rattle.demands.proofs.Salvaging.{salvages}
 use Rattle.demands.specs.KeptLists.{all_bytes}
 use Rattle.demands.proofs.SalvageKeeps.{answered}
+use Rattle.answer.specs.declared.Refused.{Refused}
+use Rattle.dss_salvage.specs.declared.Salvaging.{Salvaging}
+use Rattle.dss_salvage.specs.inner.SalvageMeasure.{counted}
 
 -- a frame of so many bytes of payload, all alike
 unfoldable pub sized : DssType → Bool → ℕ → Sent
@@ -132,6 +134,6 @@ unfolding several run all_bytes small lost_item big sized lost written chunks ch
 sizes = (refl, refl, refl)
 
 -- with a room of 32,763 bytes and a row of three, whatever its contract allows answers 0
-pub several_answered : (room : List ℕ) (row : List SalvageEntry) → 32763 ≤ length room → 3 ≤ length row → (r : Salvaged) (roomAfter : List ℕ) (rowAfter : List SalvageEntry)
-    → SalvagesRun (run several) room row r roomAfter rowAfter → r ≡ Done 3 32763 65547
+pub several_answered : (room : List ℕ) (row : List SalvageEntry) → 32763 ≤ length room → 3 ≤ length row → (r : Result Salvaging Refused) (roomAfter : List ℕ) (rowAfter : List SalvageEntry)
+    → SalvagesRun (run several) room row r roomAfter rowAfter → r ≡ Ok (counted 3 32763 65547)
 several_answered = answered several 3 32763 65547 sizes

@@ -1,4 +1,5 @@
 -- A spoilt frame is framed as before, and its head is refused wherever it stands.
+use Rattle.std.specs.Prelude.{Err}
 use Prim.Native.Nat.{ℕ, ◌+◌, ◌*◌, ◌-◌, ◌≤◌, ◌<◌}
 use native.Mathlib.Omega.{arith}
 use mathlib.Core.Path.{◌≡◌, refl, ap, ◌∙◌}
@@ -12,7 +13,6 @@ use Rattle.wire.proofs.WireLaws.{by, be16_same}
 use Rattle.answer.specs.declared.Refused.{Refused}
 use Rattle.dss_head.specs.Heads.{head_at, head_with}
 use Rattle.dss_head.proofs.TypeLaws.{type_none}
-use Rattle.dss_head.specs.declared.HeadFound.TheVariants.{Refused as Refuses}
 use Rattle.dss_frame.specs.Written.{Sent, written}
 use Rattle.dss_measure.proofs.GlanceLaws.{headed}
 use Rattle.demands.specs.Demands.{Spoilt, LengthField}
@@ -45,7 +45,7 @@ framed_kept f b x (several k r e lo hi w) =
 pub framed_spoilt : (f : Sent) (b : List ℕ) → Spoilt written f b → Framed (length f.payload) b
 framed_spoilt f b x = framed_kept f b x (framed_written f)
 
-pub head_spoilt : (f : Sent) (b : List ℕ) (x : Spoilt written f b) (s rest : List ℕ) (p : ℕ) → drop p s ≡ b ++ rest → head_at s p ≡ Refuses (record { why = x.reason.why; place = p })
+pub head_spoilt : (f : Sent) (b : List ℕ) (x : Spoilt written f b) (s rest : List ℕ) (p : ℕ) → drop p s ≡ b ++ rest → head_at s p ≡ Err (record { why = x.reason.why; place = p })
 head_spoilt f b x s rest p d = head_moved s b rest p d (framed_six (framed_spoilt f b x)) ∙ ap (moved_to p) x.head_refused
 
 -- ---- W-210, "demand 3's spoilt type is outside 1 to 5": what makes a head be refused
@@ -56,13 +56,13 @@ refuses_spoilt b six = (there, back)
     left : 6 ≤ length b - 0
     left = omega arith
 
-    there : record { reason : Refused; is : head_at b 0 ≡ Refuses reason } → SpoiltHead b
+    there : record { reason : Refused; is : head_at b 0 ≡ Err reason } → SpoiltHead b
     there x =
         by (eqb (get_or b 2 0) 0xD0)
         (λ u. inr (λ l h. let w = headed b 0 left (eqb-true (get_or b 2 0) 0xD0 u) l h in found_refused w.head x.reason (w.found ∙ x.is)))
         (λ u. inl (eqb-false (get_or b 2 0) 0xD0 u))
 
-    back : SpoiltHead b → record { reason : Refused; is : head_at b 0 ≡ Refuses reason }
+    back : SpoiltHead b → record { reason : Refused; is : head_at b 0 ≡ Err reason }
     back (inl n) = record { reason = _; is = head_magic b 0 left n }
     back (inr n) =
         by (eqb (get_or b 2 0) 0xD0)
@@ -70,7 +70,7 @@ refuses_spoilt b six = (there, back)
         (λ u. record { reason = _; is = head_magic b 0 left (eqb-false (get_or b 2 0) 0xD0 u) })
 
 -- a type of 6 is spoilt, and a type of 5 isn't: such a head is refused, and such a one isn't
-spoilt_met : record { reason : Refused; is : head_at (0 ∷ 6 ∷ 0xD0 ∷ 6 ∷ 0 ∷ 1 ∷ []) 0 ≡ Refuses reason }
+spoilt_met : record { reason : Refused; is : head_at (0 ∷ 6 ∷ 0xD0 ∷ 6 ∷ 0 ∷ 1 ∷ []) 0 ≡ Err reason }
 spoilt_met = (refuses_spoilt (0 ∷ 6 ∷ 0xD0 ∷ 6 ∷ 0 ∷ 1 ∷ []) (omega arith)).1 (inr (λ l h. omega arith))
 
 five_unspoilt : SpoiltHead (0 ∷ 6 ∷ 0xD0 ∷ 5 ∷ 0 ∷ 1 ∷ []) → ⊥

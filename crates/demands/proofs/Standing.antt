@@ -1,4 +1,5 @@
 -- What closes a frame: the end of the run, a head that is refused, a frame that stands by itself.
+use Rattle.std.specs.Prelude.{Ok, Err}
 use Prim.Native.Nat.{ℕ, ◌+◌, ◌-◌, ◌≤◌, ◌<◌}
 use native.Mathlib.Omega.{arith}
 use native.Mathlib.Decide.{dec_le}
@@ -14,7 +15,6 @@ use Rattle.answer.specs.declared.Refused.{Refused}
 use Rattle.dss_head.specs.Heads.{head_at, head_bytes, length_of}
 use Rattle.dss_head.specs.declared.DssType.{DssType}
 use Rattle.dss_head.specs.declared.DssHeader.{DssHeader}
-use Rattle.dss_head.specs.declared.HeadFound.TheVariants.{Head, Refused as Refuses}
 use Rattle.dss_frame.specs.declared.Rules.{Rules}
 use Rattle.dss_frame.specs.declared.Rules.TheVariants.{Salvage}
 use Rattle.dss_frame.specs.Reading.{finished, look, look_at, follows, own_object}
@@ -30,7 +30,7 @@ use Rattle.dss_laws.proofs.HeadFields.{head_moved, head_written}
 use Rattle.demands.proofs.WrittenFrames.{Closed, framed_six}
 
 -- a head that is refused, under salvage's rules
-pub closed_refused : (s : List ℕ) (q : ℕ) (r : Refused) → head_at s q ≡ Refuses r → Closed Salvage s q
+pub closed_refused : (s : List ℕ) (q : ℕ) (r : Refused) → head_at s q ≡ Err r → Closed Salvage s q
 unfolding look
 closed_refused s q r e t extended = pick_by (λ l. l ≡ finished) (ltb (length s - q) 6) _ _ (λ k. refl) (λ k. ap (look_at Salvage s t extended q) e)
 
@@ -38,7 +38,7 @@ closed_refused s q r e t extended = pick_by (λ l. l ≡ finished) (ltb (length 
 abbrev pub Own : List ℕ → ℕ → DssHeader → Type 0
 Own s q h = (be16 s q ≡ 65535 → ⊥) → h.flags.same_correlation ≡ true → (6 ≤ be16 s q) × (own_object s q ≡ true)
 
-closed_at : (rules : Rules) (s : List ℕ) (q : ℕ) (h : DssHeader) → Own s q h → (t : DssType) (extended : Bool) → look_at rules s t extended q (Head h) ≡ finished
+closed_at : (rules : Rules) (s : List ℕ) (q : ℕ) (h : DssHeader) → Own s q h → (t : DssType) (extended : Bool) → look_at rules s t extended q (Ok h) ≡ finished
 closed_at rules s q h own t extended =
     pick_by (λ l. l ≡ finished) (eqb (be16 s q) 65535) _ _ (λ e. refl)
     (λ e. pick_by (λ l. l ≡ finished) h.flags.same_correlation _ _
@@ -51,7 +51,7 @@ closed_at rules s q h own t extended =
     (λ e₂. refl))
     (λ e₁. refl))
 
-pub closed_head : (rules : Rules) (s : List ℕ) (q : ℕ) (h : DssHeader) → head_at s q ≡ Head h → Own s q h → Closed rules s q
+pub closed_head : (rules : Rules) (s : List ℕ) (q : ℕ) (h : DssHeader) → head_at s q ≡ Ok h → Own s q h → Closed rules s q
 unfolding look
 closed_head rules s q h e own t extended =
     pick_by (λ l. l ≡ finished) (ltb (length s - q) 6) _ _ (λ k. refl) (λ k. ap (look_at rules s t extended q) e ∙ closed_at rules s q h own t extended)

@@ -1,4 +1,5 @@
 -- W-201 over the records that the contracts of the calls cite: whatever answer, room and row they allow on any run.
+use Rattle.std.specs.Prelude.{Result, Ok}
 use Prim.Native.Nat.{ℕ, ◌+◌, ◌≤◌, ◌<◌}
 use native.Mathlib.Omega.{arith}
 use mathlib.Core.Path.{◌≡◌, refl, sym, ap, ap₂, subst, ◌∙◌}
@@ -20,17 +21,12 @@ use Rattle.dss_frame.specs.Salvage.{salvaged}
 use Rattle.dss_frame.specs.Following.{Follow, ComesFrom, Each}
 use Rattle.dss_take.specs.Take.{room_read}
 use Rattle.dss_reader.specs.declared.DssReader.{DssReader}
-use Rattle.dss_reader.specs.declared.FrameRead.{FrameRead}
-use Rattle.dss_reader.specs.declared.FrameRead.TheVariants.{Frame as Hands}
-use Rattle.dss_reader.specs.declared.FramesRead.{FramesRead}
-use Rattle.dss_reader.specs.declared.FramesRead.TheVariants.{Frames}
 use Rattle.dss_reader.specs.Reader.{stands_at, given_frame, NextFrame, frames_fit, given_frames, room_all, row_all, ReadAllFrames}
 use Rattle.dss_salvage.specs.SalvageEntries.{starts_in, ends_in, salvaged_bytes, salvaged_row}
 use Rattle.dss_salvage_call.specs.SalvageCall.{entries_fit}
 use Rattle.dss_salvage.specs.declared.Entry.{Entry}
 use Rattle.dss_salvage.specs.declared.Entry.TheVariants.{Frame as Framed, Refused as Refuses}
 use Rattle.dss_salvage.specs.declared.SalvageEntry.{SalvageEntry}
-use Rattle.dss_salvage.specs.declared.Salvaged.{Salvaged}
 use Rattle.gateway_words.specs.AnswerWords.{Answered}
 use Rattle.gateway_row.specs.RowWords.{frame_at, record_words, record_len, places, cut}
 use Rattle.gateway_row.proofs.RecordBack.{numbered, row_says}
@@ -42,6 +38,10 @@ use Rattle.demands.specs.Stretches.{FrameInside, FramesStood, EntryInside, Entri
 use Rattle.demands.proofs.Stretching.{row_first, stood_map, Whole, whole_read, payload_stood, frames_stood, salvaged_stood}
 use Rattle.demands.proofs.KeptFrame.{answer_says}
 use Rattle.demands.proofs.KeptRows.{records_long, row_long}
+use Rattle.dss_reader.specs.declared.FramesRead.{FramesRead}
+use Rattle.answer.specs.declared.Refused.{Refused}
+use Rattle.dss_salvage.specs.declared.Salvaging.{Salvaging}
+use Rattle.dss_reader.specs.Reader.{frames_read}
 
 -- ---- one frame
 
@@ -52,11 +52,11 @@ module _ (s : List ℕ) (p : ℕ) (room : List ℕ) where
       let b : List ℕ = payload_of s f.segments in
       ap (take (length b)) (i ∙ laid_fits room 0 b (omega arith)) ∙ row_first room b (length b) refl
 
-  pub next_stood : (d : DssFrame) (next : DssReader) (after : List ℕ) → NextFrame s p room (Hands d next) after → FramesStood s after p next.position (d ∷ [])
+  pub next_stood : (d : DssFrame) (next : DssReader) (after : List ℕ) → NextFrame s p room (Ok d, next) after → FramesStood s after p next.position (d ∷ [])
   unfolding Follow Each
   next_stood d next after w = of_read (read_at Reader s p) refl w.answers w.room_is
     where
-      of_read : (r : Read) → read_at Reader s p ≡ r → Hands d next ≡ given_frame s p (length room) r → after ≡ room_read s room r → FramesStood s after p next.position (d ∷ [])
+      of_read : (r : Read) → read_at Reader s p ≡ r → (Ok d, next) ≡ given_frame s p (length room) r → after ≡ room_read s room r → FramesStood s after p next.position (d ∷ [])
       of_read (refused r) i e k = let z : ◌≡◌ {A = ℕ} 0 1 = cc in absurd (omega arith)
       of_read (frame f) i e k =
           picked (leb (length (payload_of s f.segments)) (length room)) (sym e)
@@ -83,7 +83,7 @@ module _ (s : List ℕ) (p : ℕ) (room : List ℕ) where
           (λ t. let x : Whole s p f = whole_read s p f i in
           let e : ℕ = end_of p f.segments in
           let said : take 8 answer ≡ frame_at e p (frame_record s p 0 f) =
-          answer_says refl h (subst (λ (y : FrameRead). Answered (frame_words y) words 0 answer) (pick_yes _ _ t) a) in
+          answer_says refl h (subst (λ (y : Result DssFrame Refused × DssReader). Answered (frame_words y) words 0 answer) (pick_yes _ _ t) a) in
           let word : (n : ℕ) → n < 8 → get_or answer n 0 ≡ get_or (frame_at e p (frame_record s p 0 f)) n 0 =
           λ n l. sym (get_or-take 8 answer n 0 l) ∙ ap (λ (y : List ℕ). get_or y n 0) said in
           let first : get_or answer 7 0 ≡ p = word 7 (omega arith) in
@@ -97,16 +97,16 @@ module _ (s : List ℕ) (p : ℕ) (room : List ℕ) where
                 (subst (λ (n : ℕ). ComesFrom s p n (take (get_or answer 5 0) after)) (sym last)
                 (subst (ComesFrom s p e) (sym (ap (λ (n : ℕ). take n after) long ∙ taken_first f after (leb-true _ _ t) k)) x.comes));
           })
-          (λ t. absurd (omega (arith, (subst (λ (y : FrameRead). Answered (frame_words y) words 0 answer) (pick_no _ _ t) a).number_is)))
+          (λ t. absurd (omega (arith, (subst (λ (y : Result DssFrame Refused × DssReader). Answered (frame_words y) words 0 answer) (pick_no _ _ t) a).number_is)))
 
 -- ---- all frames
 
 module _ (s : List ℕ) (p : ℕ) (room : List ℕ) where
-  pub all_stood : (row : List DssFrame) (count bytes : ℕ) (reader : DssReader) (roomAfter : List ℕ) (rowAfter : List DssFrame) → ReadAllFrames s p room row (Frames count bytes reader) roomAfter rowAfter
+  pub all_stood : (row : List DssFrame) (count bytes : ℕ) (reader : DssReader) (roomAfter : List ℕ) (rowAfter : List DssFrame) → ReadAllFrames s p room row (Ok (frames_read count bytes), reader) roomAfter rowAfter
       → FramesStood s roomAfter p reader.position (take count rowAfter)
   all_stood row count bytes reader roomAfter rowAfter w = of_all (all_frames s p) refl w.answers w.room_is w.row_is
     where
-      of_all : (a : AllRead) → all_frames s p ≡ a → Frames count bytes reader ≡ given_frames s p (length room) (length row) a → roomAfter ≡ room_all s room (length row) a → rowAfter ≡ row_all s p (length room) row a
+      of_all : (a : AllRead) → all_frames s p ≡ a → (Ok (frames_read count bytes), reader) ≡ given_frames s p (length room) (length row) a → roomAfter ≡ room_all s room (length row) a → rowAfter ≡ row_all s p (length room) row a
           → FramesStood s roomAfter p reader.position (take count rowAfter)
       of_all (refused_all r) i e k l = let z : ◌≡◌ {A = ℕ} 0 1 = cc in absurd (omega arith)
       of_all (frames fs q) i e k l =
@@ -131,7 +131,7 @@ module _ (s : List ℕ) (p : ℕ) (room : List ℕ) where
           by (frames_fit s fs (length room) (places row))
           (λ t. let rs : List DssFrame = frame_records s p 0 fs in
           let said : take 8 answer ≡ 0 ∷ q ∷ length fs ∷ length (payloads_of s fs) ∷ 0 ∷ 0 ∷ 0 ∷ 0 ∷ [] =
-          answer_says refl h (subst (λ (y : FramesRead). Answered (frames_words y) words 0 answer) (pick_yes _ _ t) a) in
+          answer_says refl h (subst (λ (y : Result FramesRead Refused × DssReader). Answered (frames_words y) words 0 answer) (pick_yes _ _ t) a) in
           let last : q ≡ get_or answer 1 0 = sym (sym (get_or-take 8 answer 1 0 (omega arith)) ∙ ap (λ (y : List ℕ). get_or y 1 0) said) in
           let count : length rs ≡ get_or answer 2 0 = records_long s p 0 fs ∙ sym (sym (get_or-take 8 answer 2 0 (omega arith)) ∙ ap (λ (y : List ℕ). get_or y 2 0) said) in
           let listed : map record_words rs ≡ cut record_len (get_or answer 2 0) row_after =
@@ -141,7 +141,7 @@ module _ (s : List ℕ) (p : ℕ) (room : List ℕ) where
           (stood_map (λ (d : DssFrame). d.at) (λ (d : DssFrame). d.end) (λ (x : List ℕ). get_or x 8 0) (λ (x : List ℕ). get_or x 9 0) (FrameInside s room_after) (WordsInside s room_after) record_words
           (λ d. refl) (λ d. refl) (λ d c z. c) s p q rs
           (frames_stood fs s room_after _ p 0 q i (k ∙ pick_yes _ _ t ∙ splice_tail room 0 (payloads_of s fs) (omega arith))))))
-          (λ t. absurd (omega (arith, (subst (λ (y : FramesRead). Answered (frames_words y) words 0 answer) (pick_no _ _ t) a).number_is)))
+          (λ t. absurd (omega (arith, (subst (λ (y : Result FramesRead Refused × DssReader). Answered (frames_words y) words 0 answer) (pick_no _ _ t) a).number_is)))
 
 -- ---- salvage
 
@@ -174,7 +174,7 @@ module _ (s room : List ℕ) where
       by (entries_fit s es (length room) (places row))
       (λ t. let rs : List SalvageEntry = salvaged_row s 0 es in
       let said : take 8 answer ≡ 0 ∷ 0 ∷ length es ∷ length (salvaged_bytes s es) ∷ (salvaged s).tail ∷ 0 ∷ 0 ∷ 0 ∷ [] =
-      answer_says refl h (subst (λ (y : Salvaged). Answered (salvaged_words y) words 0 answer) (pick_yes _ _ t) w.answers) in
+      answer_says refl h (subst (λ (y : Result Salvaging Refused). Answered (salvaged_words y) words 0 answer) (pick_yes _ _ t) w.answers) in
       let last : (salvaged s).tail ≡ get_or answer 4 0 = sym (sym (get_or-take 8 answer 4 0 (omega arith)) ∙ ap (λ (y : List ℕ). get_or y 4 0) said) in
       let count : length rs ≡ get_or answer 2 0 = row_long s 0 es ∙ sym (sym (get_or-take 8 answer 2 0 (omega arith)) ∙ ap (λ (y : List ℕ). get_or y 2 0) said) in
       let listed : map entry_words rs ≡ cut record_len (get_or answer 2 0) row_after =
@@ -185,4 +185,4 @@ module _ (s room : List ℕ) where
       (λ (e : SalvageEntry). EntryInside s room_after e.entry) (WordsInside s room_after) entry_words
       (λ e. first_word e.entry) (λ e. last_word e.entry) (λ e k. words_inside s room_after e.entry k) s 0 (salvaged s).tail rs
       (salvaged_stood s room_after _ (w.room_is ∙ pick_yes _ _ t ∙ splice_tail room 0 (salvaged_bytes s es) (omega arith))))))
-      (λ t. absurd (omega (arith, (subst (λ (y : Salvaged). Answered (salvaged_words y) words 0 answer) (pick_no _ _ t) w.answers).number_is)))
+      (λ t. absurd (omega (arith, (subst (λ (y : Result Salvaging Refused). Answered (salvaged_words y) words 0 answer) (pick_no _ _ t) w.answers).number_is)))

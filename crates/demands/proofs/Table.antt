@@ -1,4 +1,5 @@
 -- Document 01, "Proved cases (hex)": P1 to P16 as one table, with one theorem. W-210: "Cases P4 and P7 become type 6."
+use Rattle.std.specs.Prelude.{Result, Ok, Err}
 use Prim.Native.Nat.{ℕ, ◌+◌}
 use mathlib.Core.Path.{◌≡◌, refl}
 use mathlib.Core.Bool.{Bool, true, false}
@@ -16,8 +17,6 @@ use Rattle.dss_frame.specs.declared.Rules.TheVariants.{Reader}
 use Rattle.dss_frame.specs.declared.DssFrame.{DssFrame}
 use Rattle.dss_take.specs.Take.{room_read}
 use Rattle.dss_reader.specs.Reader.{given_frame}
-use Rattle.dss_reader.specs.declared.FrameRead.{FrameRead}
-use Rattle.dss_reader.specs.declared.FrameRead.TheVariants.{Frame as Gives, Refused as NotRead}
 use Rattle.dss_salvage.specs.SalvageEntries.{salvaged_row, salvaged_bytes}
 use Rattle.dss_salvage.specs.declared.SalvageEntry.{SalvageEntry}
 use Rattle.dss_salvage.specs.declared.Entry.{Entry}
@@ -27,8 +26,8 @@ use Rattle.ddm_length.specs.Markers.{unmarked, kept_fuel}
 use Rattle.ddm_object.specs.Objects.{parsed}
 use Rattle.ddm_object.specs.ObjectCalls.{object_at}
 use Rattle.ddm_object.proofs.DataParsed.{data_parsed}
-use Rattle.ddm_object.specs.declared.ObjectFound.{ObjectFound}
-use Rattle.ddm_object.specs.declared.ObjectFound.TheVariants.{Object as GivesObject, Refused as NoObject}
+use Rattle.ddm_object.specs.declared.DdmObject.{DdmObject}
+use Rattle.dss_reader.specs.declared.DssReader.{DssReader}
 
 -- ---- what is asked, and what it comes to
 
@@ -78,20 +77,20 @@ handed d room = record {
 unfoldable pub of_refused : Refused → Outcome
 of_refused r = refused (number_of r.why) (values_of r.why) r.place
 
-unfoldable pub of_read : FrameRead → List ℕ → Came
+unfoldable pub of_read : Result DssFrame Refused × DssReader → List ℕ → Came
 unfolding handed of_refused
-of_read (Gives d reader) room = record { out = frame (handed d room) ∷ []; end = reader.position }
-of_read (NotRead r reader) room = record { out = of_refused r ∷ []; end = reader.position }
+of_read (Ok d, reader) room = record { out = frame (handed d room) ∷ []; end = reader.position }
+of_read (Err r, reader) room = record { out = of_refused r ∷ []; end = reader.position }
 
 unfoldable pub of_entry : List ℕ → Entry → Outcome
 unfolding handed of_refused
 of_entry room (EntryFrame d) = frame (handed d room)
 of_entry room (EntryRefused r p e) = of_refused r
 
-unfoldable pub of_object : ObjectFound → List ℕ → Came
+unfoldable pub of_object : Result DdmObject Refused → List ℕ → Came
 unfolding of_refused
-of_object (GivesObject o) content = record { out = object o.code_point content ∷ []; end = o.consumed }
-of_object (NoObject r) content = record { out = of_refused r ∷ []; end = 0 }
+of_object (Ok o) content = record { out = object o.code_point content ∷ []; end = o.consumed }
+of_object (Err r) content = record { out = of_refused r ∷ []; end = 0 }
 
 unfoldable pub blank : List ℕ → List ℕ
 blank s = replicate (length s) 0

@@ -1,4 +1,5 @@
 -- Reading a written frame wherever it stands, if what follows closes it.
+use Rattle.std.specs.Prelude.{Result, Ok, Err}
 use Prim.Native.Nat.{ℕ, ◌+◌, ◌-◌, ◌≤◌}
 use native.Mathlib.Omega.{arith}
 use mathlib.Core.Path.{◌≡◌, refl, ap, ◌∙◌}
@@ -12,8 +13,6 @@ use Rattle.answer.specs.declared.Refused.{Refused}
 use Rattle.dss_head.specs.Heads.{head_at, length_of}
 use Rattle.dss_head.specs.declared.DssType.{DssType}
 use Rattle.dss_head.specs.declared.DssHeader.{DssHeader}
-use Rattle.dss_head.specs.declared.HeadFound.{HeadFound}
-use Rattle.dss_head.specs.declared.HeadFound.TheVariants.{Head, Refused as Refuses}
 use Rattle.dss_frame.specs.declared.Rules.{Rules}
 use Rattle.dss_frame.specs.declared.Rules.TheVariants.{Reader, Salvage}
 use Rattle.dss_frame.specs.Segments.{payload_of}
@@ -42,7 +41,7 @@ framed_raw (single h e w) = omega arith
 framed_raw (several k r e lo hi w) = omega (arith, w.starts)
 
 -- up to the head: the walk, and then the head
-pub read_walked : {n : ℕ} {b : List ℕ} (w : Framed n b) (rules : Rules) → WholeUnder rules n → (s rest : List ℕ) (p : ℕ) (h : HeadFound) → drop p s ≡ b ++ rest → head_at s p ≡ h
+pub read_walked : {n : ℕ} {b : List ℕ} (w : Framed n b) (rules : Rules) → WholeUnder rules n → (s rest : List ℕ) (p : ℕ) (h : Result DssHeader Refused) → drop p s ≡ b ++ rest → head_at s p ≡ h
     → read_at rules s p ≡ read_head rules s p (segments_of w p) h
 unfolding read_at
 read_walked {n} {b} w rules u s rest p h d e =
@@ -53,13 +52,13 @@ read_walked {n} {b} w rules u s rest p h d e =
     ∙ ap (read_head rules s p (segments_of w p)) e
 
 -- a head that is found: the frame, if what follows closes it
-pub read_found : {n : ℕ} {b : List ℕ} (w : Framed n b) (rules : Rules) → WholeUnder rules n → (s rest : List ℕ) (p : ℕ) (h : DssHeader) → drop p s ≡ b ++ rest → head_at s p ≡ Head h
+pub read_found : {n : ℕ} {b : List ℕ} (w : Framed n b) (rules : Rules) → WholeUnder rules n → (s rest : List ℕ) (p : ℕ) (h : DssHeader) → drop p s ≡ b ++ rest → head_at s p ≡ Ok h
     → (n ≤ 32761 → Closed rules s (p + length b)) → read_at rules s p ≡ frame (record { head = h; segments = segments_of w p })
 read_found {n} {b} w rules u s rest p h d e c =
     let l : length s - p ≡ length b + length rest = here_length s b rest p d in
     let six : 6 ≤ length b = framed_six w in
     let raw : be16 s p ≡ be16 b 0 = here_first s b rest p d (omega arith) in
-    read_walked w rules u s rest p (Head h) d e
+    read_walked w rules u s rest p (Ok h) d e
     ∙ pick_no _ _ (le-ltb (be16 s p) 6 (omega (arith, framed_raw w)))
     ∙ by_shape w raw c
   where
@@ -73,9 +72,9 @@ read_found {n} {b} w rules u s rest p h d e c =
     by_shape (several k r z lo hi y) raw c = pick_yes _ _ (eq-eqb (be16 s p) 65535 (raw ∙ y.starts))
 
 -- a head that is refused
-pub read_refused : {n : ℕ} {b : List ℕ} (w : Framed n b) (rules : Rules) → WholeUnder rules n → (s rest : List ℕ) (p : ℕ) (r : Refused) → drop p s ≡ b ++ rest → head_at s p ≡ Refuses r
+pub read_refused : {n : ℕ} {b : List ℕ} (w : Framed n b) (rules : Rules) → WholeUnder rules n → (s rest : List ℕ) (p : ℕ) (r : Refused) → drop p s ≡ b ++ rest → head_at s p ≡ Err r
     → read_at rules s p ≡ refused r
-read_refused w rules u s rest p r d e = read_walked w rules u s rest p (Refuses r) d e
+read_refused w rules u s rest p r d e = read_walked w rules u s rest p (Err r) d e
 
 -- ---- a written frame
 

@@ -1,7 +1,7 @@
 -- Document 02, W-205, what stays as it was: a run that the reader reads without refusal, and in which no continuation that is
 -- walked has length 0x7FFF, is salvaged as it is read; and where salvage ends, the frame's end still says why. Statements about any
 -- reader of all frames, any salvage reading and any function that says a frame's end.
-use Rattle.std.specs.Prelude.{ℕ, ◌+◌, ◌*◌, ◌≤◌, ◌≡◌, List, [], ◌∷◌, length}
+use Rattle.std.specs.Prelude.{ℕ, ◌+◌, ◌*◌, ◌≤◌, ◌≡◌, List, [], ◌∷◌, length, Result, Err}
 use Rattle.wire.specs.Bytes.{be16}
 use Rattle.answer.specs.declared.Refusal.TheVariants.{Incomplete, DeadContinuation}
 use Rattle.dss_frame.specs.declared.Rules.TheVariants.{Salvage}
@@ -9,10 +9,9 @@ use Rattle.dss_frame.specs.Segments.{short, dead, end_of, frame_walk}
 use Rattle.dss_frame.specs.Reading.{Frame, frame}
 use Rattle.dss_frame.specs.Frames.{frames}
 use Rattle.dss_frame.specs.Salvage.{Entry}
-use Rattle.dss_reader.specs.declared.FrameEnd.{FrameEnd}
-use Rattle.dss_reader.specs.declared.FrameEnd.TheVariants.{Refused as NoEnd}
 use Rattle.demands.specs.Demands.{Salvager}
 use Rattle.demands.specs.AllFrames.{AllReader}
+use Rattle.answer.specs.declared.Refused.{Refused}
 
 -- the walk from p comes to a continuation of length 0x7FFF: the lengths before it, the frame's own first, are FFFF (of bytes, no
 -- length is above that), and so each segment before it takes 32,767 bytes
@@ -37,10 +36,10 @@ SalvagesAsRead reads salvages =
 
 -- says the end of the frame at a place of a run, as `frame_end` does
 abbrev pub Ender : Type 0
-Ender = List ℕ → ℕ → FrameEnd
+Ender = List ℕ → ℕ → Result ℕ Refused
 
 -- What isn't whole for salvage has no end for the reader either, and for the same reason: 1 where bytes are missing, 16 where a length
 -- of 0 or 1 stands.
 pub record TellsWhy (ends : Ender) : Type 0 where
-  pub yet : (s : List ℕ) (p : ℕ) → p ≤ length s → frame_walk Salvage s p ≡ short → ends s p ≡ NoEnd (record { why = Incomplete; place = p })
-  pub never : (s : List ℕ) (p q : ℕ) → p ≤ length s → frame_walk Salvage s p ≡ dead q → ends s p ≡ NoEnd (record { why = DeadContinuation; place = q })
+  pub yet : (s : List ℕ) (p : ℕ) → p ≤ length s → frame_walk Salvage s p ≡ short → ends s p ≡ Err (record { why = Incomplete; place = p })
+  pub never : (s : List ℕ) (p q : ℕ) → p ≤ length s → frame_walk Salvage s p ≡ dead q → ends s p ≡ Err (record { why = DeadContinuation; place = q })

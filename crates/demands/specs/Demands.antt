@@ -1,9 +1,8 @@
 -- The user's demands 2 and 3, as statements about any writer, any reader and any salvage reading.
-use Rattle.std.specs.Prelude.{ℕ, ◌+◌, ◌*◌, ◌≤◌, ◌<◌, ◌≡◌, false, ◌⊎◌, List, [], ◌∷◌, ◌++◌, length, get_or}
+use Rattle.std.specs.Prelude.{ℕ, ◌+◌, ◌*◌, ◌≤◌, ◌<◌, ◌≡◌, false, ◌⊎◌, List, [], ◌∷◌, ◌++◌, length, get_or, Err}
 use Rattle.answer.specs.declared.Refusal.TheVariants.{Incomplete}
 use Rattle.answer.specs.declared.Refused.{Refused}
 use Rattle.dss_head.specs.Heads.{head_at}
-use Rattle.dss_head.specs.declared.HeadFound.TheVariants.{Refused as Refuses}
 use Rattle.dss_frame.specs.Segments.{payload_of, end_of}
 use Rattle.dss_frame.specs.Reading.{Read, frame, refused, Frame}
 use Rattle.dss_frame.specs.Salvage.{Entry, Salvaged}
@@ -83,7 +82,7 @@ pub record Spoilt (writes : Writer) (f : Sent) (b : List ℕ) : Type 0 where
   pub bytes : (k : ℕ) → get_or b k 0 < 256
   pub lengths_kept : (k : ℕ) → LengthField f k → get_or b k 0 ≡ get_or (writes f) k 0
   pub reason : Refused
-  pub head_refused : head_at b 0 ≡ Refuses reason
+  pub head_refused : head_at b 0 ≡ Err reason
 
 -- what comes off the wire: a frame as written, or one that was spoilt; W-205: "demand 3 has no forbidden sizes"
 pub data Item (writes : Writer) : Type 0 where

@@ -1,24 +1,19 @@
 -- What the lines of Kept say holds after a call: in Rattle, of a record; for a caller in C or Rust, of the words that were lent.
-use Rattle.std.specs.Prelude.{ℕ, ◌+◌, ◌*◌, ◌%◌, ◌≤◌, ◌<◌, ◌≡◌, false, List, [], ◌∷◌, length, get_or, take, drop}
+use Rattle.std.specs.Prelude.{ℕ, ◌+◌, ◌*◌, ◌%◌, ◌≤◌, ◌<◌, ◌≡◌, false, List, [], ◌∷◌, length, get_or, take, drop, Result, Ok, Err}
 use Rattle.wire.specs.Bytes.{part, splice, joined}
 use Rattle.answer.specs.Numbers.{number_of}
 use Rattle.answer.specs.declared.Refusal.TheVariants.{Incomplete}
 use Rattle.answer.specs.declared.Refused.{Refused}
 use Rattle.dss_head.specs.Heads.{type_at, flags_of}
 use Rattle.dss_head.specs.declared.DssFlags.{DssFlags}
-use Rattle.dss_head.specs.declared.TypeFound.TheVariants.{Is}
 use Rattle.dss_frame.specs.Reading.{Frame, Read}
 use Rattle.dss_frame.specs.Frames.{AllRead}
 use Rattle.dss_frame.specs.FrameRecords.{frame_record}
 use Rattle.dss_frame.specs.Written.{Sent, written}
 use Rattle.dss_frame.specs.declared.DssFrame.{DssFrame}
 use Rattle.dss_writer.specs.declared.DssWriter.{DssWriter}
-use Rattle.dss_writer.specs.declared.Wrote.{Wrote}
-use Rattle.dss_writer.specs.declared.Wrote.TheVariants.{Done}
 use Rattle.dss_take.specs.Take.{room_read}
 use Rattle.dss_reader.specs.Reader.{stands_at, given_frame, given_frames, room_all}
-use Rattle.dss_reader.specs.declared.FrameRead.{FrameRead}
-use Rattle.dss_reader.specs.declared.FrameRead.TheVariants.{Frame as Hands, Refused as NotRead}
 use Rattle.gateway_words.specs.AnswerWords.{refusal_words, done_words, Answered, answer_len}
 use Rattle.gateway_reader.specs.ReaderWords.{frame_words}
 use Rattle.gateway_frames.specs.FramesWords.{frames_words, frames_row}
@@ -27,6 +22,7 @@ use Rattle.layouts.specs.DssLayout.{Structure, Dss}
 use Rattle.demands.specs.Demands.{Item, good, spoilt, run, item_bytes}
 use Rattle.demands.specs.DssLayouts.{SaysStructure}
 use Rattle.demands.specs.KeptLists.{payloads, due_bytes, all_bytes}
+use Rattle.dss_reader.specs.declared.DssReader.{DssReader}
 
 -- ---- a frame that comes back
 
@@ -47,7 +43,7 @@ pub record IsFrame (f : Sent) (place : ℕ) (d : DssFrame) : Type 0 where
 pub record InWords (f : Sent) (place : ℕ) (w : List ℕ) : Type 0 where
   pub number : get_or w 0 0 ≡ 0
   pub place_is : get_or w 1 0 ≡ place
-  pub type : type_at (get_or w 3 0) 0 ≡ Is f.type
+  pub type : type_at (get_or w 3 0) 0 ≡ Ok f.type
   pub flags : flags_of (get_or w 3 0) ≡ flags_sent f
   pub correlation : get_or w 4 0 ≡ f.correlation
   pub payload_len : get_or w 5 0 ≡ length f.payload
@@ -59,15 +55,15 @@ abbrev pub mark_behind : ℕ → Sent → ℕ
 mark_behind fill f = fill + length (written f)
 
 -- the writer came back with its fill mark behind the frame
-abbrev pub Written : DssWriter → Sent → Wrote → Type 0
-Written w f wrote = wrote ≡ Done (record { correlation_id = w.correlation_id; fill = mark_behind w.fill f })
+abbrev pub Written : DssWriter → Sent → Result DssWriter Refused → Type 0
+Written w f wrote = wrote ≡ Ok (record { correlation_id = w.correlation_id; fill = mark_behind w.fill f })
 
 -- "gives back type, flags, correlation, payload and is wholly consumed": the position is the fill mark behind the frame; the
 -- payload stands at the room's start, and the rest of the room is as it was
-pub record ReadAgain (w : DssWriter) (f : Sent) (wrote : Wrote) (room : List ℕ) (r : FrameRead) (after : List ℕ) : Type 0 where
+pub record ReadAgain (w : DssWriter) (f : Sent) (wrote : Result DssWriter Refused) (room : List ℕ) (r : Result DssFrame Refused × DssReader) (after : List ℕ) : Type 0 where
   pub wrote_is : Written w f wrote
   pub frame : DssFrame
-  pub read_is : r ≡ Hands frame (stands_at (mark_behind w.fill f))
+  pub read_is : r ≡ (Ok frame, stands_at (mark_behind w.fill f))
   pub gives : IsFrame f 0 frame
   pub room_is : after ≡ splice room 0 f.payload
 
@@ -76,9 +72,9 @@ abbrev pub not_yet : ℕ → Refused
 not_yet p = record { why = Incomplete; place = p }
 
 -- "the reader says it isn't whole", and position and room are as they were
-pub record NotReadAgain (w : DssWriter) (f : Sent) (wrote : Wrote) (room : List ℕ) (r : FrameRead) (after : List ℕ) : Type 0 where
+pub record NotReadAgain (w : DssWriter) (f : Sent) (wrote : Result DssWriter Refused) (room : List ℕ) (r : Result DssFrame Refused × DssReader) (after : List ℕ) : Type 0 where
   pub wrote_is : Written w f wrote
-  pub read_is : r ≡ NotRead (not_yet w.fill) (stands_at w.fill)
+  pub read_is : r ≡ (Err (not_yet w.fill), stands_at w.fill)
   pub room_is : after ≡ room
 
 -- both in words: the two numbers returned, what the words of the two calls then start with, and the room
@@ -99,9 +95,9 @@ pub record NotReadAgainInWords (f : Sent) (fill number : ℕ) (words : List ℕ)
 -- ---- the volume's layout
 
 -- the structure comes back: its payload at the room's start, the rest of the room as it was, and the run wholly consumed
-pub record StructureBack (w : Structure) (b room : List ℕ) (r : FrameRead) (after : List ℕ) : Type 0 where
+pub record StructureBack (w : Structure) (b room : List ℕ) (r : Result DssFrame Refused × DssReader) (after : List ℕ) : Type 0 where
   pub read : Frame
-  pub is : r ≡ Hands (frame_record b 0 0 read) (stands_at (length b))
+  pub is : r ≡ (Ok (frame_record b 0 0 read), stands_at (length b))
   pub says : SaysStructure w b read
   pub room_is : after ≡ splice room 0 w.payload
 
@@ -136,7 +132,7 @@ pub record RefusedAs (why : Refused) (room : List ℕ) (number : ℕ) (words aft
 -- ---- what a reading that isn't the port's would answer
 
 -- `next_frame` answers and leaves in the room what it would, were this what is read
-pub record AnsweredAs (s : List ℕ) (p : ℕ) (room : List ℕ) (read : Read) (r : FrameRead) (after : List ℕ) : Type 0 where
+pub record AnsweredAs (s : List ℕ) (p : ℕ) (room : List ℕ) (read : Read) (r : Result DssFrame Refused × DssReader) (after : List ℕ) : Type 0 where
   pub answer_is : r ≡ given_frame s p (length room) read
   pub room_is : after ≡ room_read s room read
 

@@ -1,6 +1,6 @@
 -- With a longer run lent, what was answered at a position stays, as far as document 01's rules of reading allow: "`extend`
 -- becomes lending a longer run with the same position". Statements about any reader.
-use Rattle.std.specs.Prelude.{ℕ, ◌-◌, ◌≤◌, ◌<◌, ◌≡◌, Bool, true, false, ◌⊎◌, List, ◌++◌, length}
+use Rattle.std.specs.Prelude.{ℕ, ◌-◌, ◌≤◌, ◌<◌, ◌≡◌, Bool, true, false, ◌⊎◌, List, ◌++◌, length, Ok}
 use Rattle.wire.specs.Bytes.{be16}
 use Rattle.answer.specs.Numbers.{number_of}
 use Rattle.answer.specs.declared.Refusal.TheVariants.{DeadContinuation}
@@ -8,7 +8,6 @@ use Rattle.answer.specs.declared.Refused.{Refused}
 use Rattle.dss_head.specs.Heads.{head_at}
 use Rattle.dss_head.specs.declared.DssType.{DssType}
 use Rattle.dss_head.specs.declared.DssHeader.{DssHeader}
-use Rattle.dss_head.specs.declared.HeadFound.TheVariants.{Head}
 use Rattle.dss_frame.specs.declared.Rules.{Rules}
 use Rattle.dss_frame.specs.Segments.{Segment, payload_of, end_of, dead, frame_walk}
 use Rattle.dss_frame.specs.Reading.{Read, frame, refused, Frame, follows, own_object, with_chained}
@@ -20,7 +19,7 @@ use Rattle.demands.specs.AllFrames.{AllReader}
 -- left", and, where no reason before it holds, "Length beyond the run"
 pub data Unsettled (s : List ℕ) (type : DssType) (q : ℕ) : Type 0 where
   few_left : length s - q < 6 → Unsettled s type q
-  beyond : (h : DssHeader) → head_at s q ≡ Head h → (be16 s q ≡ 0xFFFF → ⊥) → h.flags.same_correlation ≡ true → follows type h.dss_type ≡ true
+  beyond : (h : DssHeader) → head_at s q ≡ Ok h → (be16 s q ≡ 0xFFFF → ⊥) → h.flags.same_correlation ≡ true → follows type h.dss_type ≡ true
       → length s - q < be16 s q → Unsettled s type q
 
 -- a frame that no more bytes can change: one in several segments of its own, or one at whose end neither reason holds
@@ -107,10 +106,10 @@ SalvageKeepsWaiting reads salvages =
 -- what stands at q is no segment of a frame of that type before it, by document 01's list: "Raw 0xFFFF, or same correlation
 -- clear", another type, or "an object of its own"
 pub data Apart (s : List ℕ) (type : DssType) (q : ℕ) : Type 0 where
-  continued : (h : DssHeader) → head_at s q ≡ Head h → be16 s q ≡ 0xFFFF → Apart s type q
-  clear : (h : DssHeader) → head_at s q ≡ Head h → h.flags.same_correlation ≡ false → Apart s type q
-  other_type : (h : DssHeader) → head_at s q ≡ Head h → follows type h.dss_type ≡ false → Apart s type q
-  own_object_is : (h : DssHeader) → head_at s q ≡ Head h → own_object s q ≡ true → Apart s type q
+  continued : (h : DssHeader) → head_at s q ≡ Ok h → be16 s q ≡ 0xFFFF → Apart s type q
+  clear : (h : DssHeader) → head_at s q ≡ Ok h → h.flags.same_correlation ≡ false → Apart s type q
+  other_type : (h : DssHeader) → head_at s q ≡ Ok h → follows type h.dss_type ≡ false → Apart s type q
+  own_object_is : (h : DssHeader) → head_at s q ≡ Ok h → own_object s q ≡ true → Apart s type q
 
 -- A frame taken early is what would have been read, if what comes behind it is such.
 abbrev pub EarlyStay : Reader → Type 0

@@ -1,14 +1,12 @@
 -- Document 02, W-203, "Stop waiting for what can't come": 16 is exactly what no further bytes can mend. A statement about any
 -- reader, and the position that it leaves.
-use Rattle.std.specs.Prelude.{ℕ, ◌≤◌, ◌≡◌, ◌↔◌, Bool, true, false, List, ◌++◌, eqb, length}
+use Rattle.std.specs.Prelude.{ℕ, ◌≤◌, ◌≡◌, ◌↔◌, Bool, true, false, List, ◌++◌, eqb, length, Result, Ok, Err}
 use Rattle.wire.specs.Bytes.{Octets}
 use Rattle.answer.specs.Numbers.{number_of, not_whole}
 use Rattle.answer.specs.declared.Refused.{Refused}
 use Rattle.dss_frame.specs.declared.Rules.{Rules}
 use Rattle.dss_frame.specs.Segments.{Segment, whole, frame_walk}
 use Rattle.dss_frame.specs.Reading.{Read, frame, refused}
-use Rattle.dss_reader.specs.declared.FrameEnd.{FrameEnd}
-use Rattle.dss_reader.specs.declared.FrameEnd.TheVariants.{End, Refused as NoEnd}
 use Rattle.demands.specs.Demands.{Reader}
 use Rattle.demands.specs.Longer.{DeadStays}
 
@@ -44,6 +42,6 @@ pub record StopsWaiting (rules : Rules) (reads : Reader) (stands : Stand) : Type
 -- ---- and what stands before such a frame
 
 -- the frame's end is known, or that it never comes: what `frame_end` answers is 0 or 16
-abbrev pub decided : FrameEnd → Bool
-decided (End e) = true
-decided (NoEnd r) = eqb (number_of r.why) 16
+abbrev pub decided : Result ℕ Refused → Bool
+decided (Ok e) = true
+decided (Err r) = eqb (number_of r.why) 16

@@ -1,5 +1,6 @@
 -- What the contracts of the exported functions say in words, where bytes have the layout, where parameters were built one behind the
 -- other, and where markers are removed.
+use Rattle.std.specs.Prelude.{Result, Ok}
 use Prim.Native.Nat.{ℕ, ◌+◌, ◌-◌, ◌^◌, ◌≤◌, ◌<◌}
 use native.Mathlib.Omega.{arith}
 use mathlib.Core.Path.{◌≡◌, refl, sym, ap, subst, ◌∙◌}
@@ -19,11 +20,6 @@ use Rattle.ddm_builder.specs.Built.{built, built_all, Fit}
 use Rattle.ddm_builder.proofs.BuiltForms.{length_built}
 use Rattle.ddm_object.specs.Objects.{parameters}
 use Rattle.ddm_object.specs.ObjectCalls.{object_at, find_from, FindsParam, u16_of, u32_of}
-use Rattle.ddm_object.specs.declared.ObjectFound.{ObjectFound}
-use Rattle.ddm_object.specs.declared.U16Found.{U16Found}
-use Rattle.ddm_object.specs.declared.U16Found.TheVariants.{Number as U16}
-use Rattle.ddm_object.specs.declared.U32Found.{U32Found}
-use Rattle.ddm_object.specs.declared.U32Found.TheVariants.{Number as U32}
 use Rattle.gateway_words.specs.AnswerWords.{Answered, laid_words, LaysInWords}
 use Rattle.gateway_object.specs.ObjectWords.{ReadsObject, ReadsParam, u16_words, u32_words}
 use Rattle.demands_ddm.specs.DdmLayouts.{FitsWidth}
@@ -33,13 +29,15 @@ use Rattle.demands_ddm.proofs.LayoutRead.{ends_with, layout_read}
 use Rattle.demands_ddm.proofs.Finding.{none_found, first_found}
 use Rattle.demands_ddm.proofs.Said.{said_number, said_laid, said_object, said_none}
 use Rattle.demands_ddm.proofs.Back.{whole_of}
+use Rattle.ddm_object.specs.declared.DdmObject.{DdmObject}
+use Rattle.answer.specs.declared.Refused.{Refused}
 
 -- bytes with the layout, at a place of a run
 pub layout_said : (cp : ℕ) (d p behind : List ℕ) → FitsWidth cp d → Ddm cp d p → (Streamed p → behind ≡ []) → (Streamed p → has_markers d ≡ false) → (run : List ℕ) (at : ℕ) → drop at run ≡ p ++ behind
     → (work words : List ℕ) (r : ℕ) (workAfter said : List ℕ) → 8 ≤ length words → ReadsObject run at work words r workAfter said
     → AnswersObject cp d run (length p) work words r workAfter said
 layout_said cp d p behind f w alone plain run at e work words r workAfter said h q =
-    let x : ObjectFound = object_at run at (length work) in
+    let x : Result DdmObject Refused = object_at run at (length work) in
     let z = ends_with w in
     let n : (length p - length d) + length d ≡ length p = omega (arith, ap length z.1, length-append z.0 d) in
     let v : ReadsAs cp d run at (length p - length d) work x workAfter =
@@ -55,14 +53,14 @@ module _ (cp : ℕ) (work words : List ℕ) (r : ℕ) (workAfter said : List ℕ
       → AnswersObject cp d (built_all l) (length (built cp d)) work words r workAfter said
   found_said d before rest g k q =
       let s : List ℕ = built_all (before ++ ((cp, d) ∷ rest)) in
-      let x : ObjectFound = find_from s 0 cp (length work) (parameters s) in
+      let x : Result DdmObject Refused = find_from s 0 cp (length work) (parameters s) in
       subst (λ (n : ℕ). AnswersObject cp d s n work words r workAfter said) (sym (length_built cp d))
       (said_object words r said h cp d s (length (built_all before)) (built_header d) work workAfter x (first_found cp d before rest g k work x workAfter (contract_of s q)) q.answers)
 
   pub lacking_said : (l : List (ℕ × List ℕ)) → Fit l → Lacks cp l → ReadsParam (built_all l) cp work words r workAfter said → AnswersNone work words r workAfter said
   lacking_said l g k q =
       let s : List ℕ = built_all l in
-      let x : ObjectFound = find_from s 0 cp (length work) (parameters s) in
+      let x : Result DdmObject Refused = find_from s 0 cp (length work) (parameters s) in
       let z = none_found cp l g k work x workAfter (contract_of s q) in
       said_none words r said h work workAfter x z.0 z.1 q.answers
 
@@ -77,18 +75,18 @@ strip_said a s m room words r after said l w h k p =
 
 -- ---- numbers put in as two or four bytes
 
-pub u16_back : (n : ℕ) → n < 65536 → u16_of (two n) ≡ U16 n
-u16_back n h = ap U16 (omega arith)
+pub u16_back : (n : ℕ) → n < 65536 → u16_of (two n) ≡ Ok n
+u16_back n h = ap Ok (omega arith)
 
-pub u32_back : (n : ℕ) → n < 2 ^ 32 → u32_of (last 4 n) ≡ U32 n
+pub u32_back : (n : ℕ) → n < 2 ^ 32 → u32_of (last 4 n) ≡ Ok n
 unfolding u32_of
 u32_back n h =
     let l : length (last 4 n) ≡ 4 = length_last 4 n in
-    pick_yes _ _ (le-leb 4 (length (last 4 n)) (omega arith)) ∙ ap (λ (x : List ℕ). U32 (spelled 0 x)) (take_all 4 (last 4 n) (omega arith)) ∙ ap U32 (spelled_last 4 n (omega arith))
+    pick_yes _ _ (le-leb 4 (length (last 4 n)) (omega arith)) ∙ ap (λ (x : List ℕ). Ok (spelled 0 x)) (take_all 4 (last 4 n) (omega arith)) ∙ ap Ok (spelled_last 4 n (omega arith))
 
 module _ (words : List ℕ) (r : ℕ) (said : List ℕ) (h : 8 ≤ length words) where
   pub u16_said : (n : ℕ) → n < 65536 → Answered (u16_words (u16_of (two n))) words r said → AnswersNumber n words r said
-  u16_said n k a = said_number words r said h n (subst (λ (x : U16Found). Answered (u16_words x) words r said) (u16_back n k) a)
+  u16_said n k a = said_number words r said h n (subst (λ (x : Result ℕ Refused). Answered (u16_words x) words r said) (u16_back n k) a)
 
   pub u32_said : (n : ℕ) → n < 2 ^ 32 → Answered (u32_words (u32_of (last 4 n))) words r said → AnswersNumber n words r said
-  u32_said n k a = said_number words r said h n (subst (λ (x : U32Found). Answered (u32_words x) words r said) (u32_back n k) a)
+  u32_said n k a = said_number words r said h n (subst (λ (x : Result ℕ Refused). Answered (u32_words x) words r said) (u32_back n k) a)

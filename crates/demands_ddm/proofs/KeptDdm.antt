@@ -3,6 +3,7 @@
 -- hold at the end, are any that it allows. `x.now` is what a slice holds at the call, and `at_last x l` the slice with l in it at the
 -- end. Of a function over a row of records `clauses` are named, and `ent .. (fact ..)` says that what it ensures entails the fact.
 -- `Fits` and `Fit` hold of all that can be passed to a call: code points of sixteen bits, data of fewer than 2^63 bytes.
+use Rattle.std.specs.Prelude.{Result, Ok, Err}
 use Prim.Native.Nat.{ℕ, ◌+◌, ◌*◌, ◌-◌, ◌^◌, ◌≤◌, ◌<◌}
 use mathlib.Core.Path.{◌≡◌, ap, subst, ◌∙◌}
 use mathlib.Core.Bool.{false}
@@ -18,15 +19,11 @@ use contract.Monad.{Fun, fact, fact_mono}
 use denote.Ref.{Bor, MutBor, at_last}
 use Rattle.wire.specs.Bytes.{two, last, splice}
 use Rattle.answer.specs.declared.Refused.{Refused}
-use Rattle.answer.specs.declared.Laid.{Laid}
-use Rattle.answer.specs.declared.Laid.TheVariants.{Bytes}
 use Rattle.layouts.specs.DdmLayout.{Ddm, Streamed}
 use Rattle.ddm_length.specs.Markers.{has_markers, unmarked, Marked}
 use Rattle.ddm_length.proofs.strip_extended_ddm_continuation_markers.Reads as strip
 use Rattle.ddm_builder.specs.Built.{built, built_all, Fit}
 use Rattle.ddm_builder.specs.declared.DdmBuilder.{DdmBuilder}
-use Rattle.ddm_builder.specs.declared.Added.{Added}
-use Rattle.ddm_builder.specs.declared.Added.TheVariants.{Done}
 use Rattle.ddm_builder.proofs.DdmBuilder.add_code_point.Reads as add_code_point
 use Rattle.ddm_builder.proofs.build_ddm_object.Reads as build_ddm_object
 use Rattle.ddm_builder.proofs.DdmBuilder.build.Reads as build
@@ -34,13 +31,6 @@ use Rattle.ddm_object.specs.Objects.{Object, object, parsed}
 use Rattle.ddm_object.specs.ObjectCalls.{not_found, ObjectAt, u16_of, u32_of}
 use Rattle.ddm_rows.specs.ListCalls.{ListsParameters}
 use Rattle.ddm_object.specs.declared.DdmObject.{DdmObject}
-use Rattle.ddm_object.specs.declared.ObjectFound.{ObjectFound}
-use Rattle.ddm_object.specs.declared.ObjectFound.TheVariants.{Object as Gives, Refused as NotGiven}
-use Rattle.ddm_rows.specs.declared.ObjectsFound.{ObjectsFound}
-use Rattle.ddm_object.specs.declared.U16Found.{U16Found}
-use Rattle.ddm_object.specs.declared.U16Found.TheVariants.{Number as U16}
-use Rattle.ddm_object.specs.declared.U32Found.{U32Found}
-use Rattle.ddm_object.specs.declared.U32Found.TheVariants.{Number as U32}
 use Rattle.ddm_object.proofs.object_at.Reads as object_at
 use Rattle.ddm_object.proofs.object_data.Reads as object_data
 use Rattle.ddm_object.proofs.Filled.{given_data, refused_none}
@@ -75,6 +65,7 @@ use Rattle.demands_ddm.proofs.Adding.{calls_filled, words_filled, addition_made,
 use Rattle.demands_ddm.proofs.Exports.{layout_said, found_said, lacking_said, strip_said, u16_back, u32_back, u16_said, u32_said}
 use Rattle.demands_ddm.proofs.RequestBack.{request_back, request_list, request_back_said, request_list_said}
 use Rattle.demands_ddm.proofs.Calls.{param_found, param_lacking, marks_stripped, parameters_back, objects_back}
+use Rattle.ddm_rows.specs.declared.ObjectsFound.{ObjectsFound}
 
 -- ---- Demand 2: "meets the DSS and DDM layouts of The Open Group's DRDA volume 3, with differences listed"
 
@@ -99,7 +90,7 @@ layout_fixes = fixes_object
 -- Bytes with the layout, anywhere in a run, are read as it says: by `object_at`, and by `lattrugone_object`.
 module _ (cp : ℕ) (d p behind : List ℕ) (fits : FitsWidth cp d) (laid_out : Ddm cp d p) (alone : Streamed p → behind ≡ []) (unmarked : Streamed p → has_markers d ≡ false)
     (run : Bor (List ℕ)) (at : ℕ) (there : drop at run.now ≡ p ++ behind) (work : MutBor (List ℕ)) (workAfter : List ℕ) where
-  pub layout_read_by_call : (κs : Lfts 2) (r : ObjectFound) → object_at.Post κs (run, (at, (work, tt))) r (run, (at, (at_last work workAfter, tt)))
+  pub layout_read_by_call : (κs : Lfts 2) (r : Result DdmObject Refused) → object_at.Post κs (run, (at, (work, tt))) r (run, (at, (at_last work workAfter, tt)))
       → ReadsAs cp d run.now at (length p - length d) work.now r workAfter
   layout_read_by_call κs r q = layout_read cp d p laid_out fits.0 fits.1 run.now behind at there alone unmarked work.now r workAfter q
 
@@ -114,10 +105,10 @@ module _ (cp : ℕ) (d p behind : List ℕ) (fits : FitsWidth cp d) (laid_out : 
 module _ (cp : ℕ) (d : Bor (List ℕ)) (room : MutBor (List ℕ)) (after : List ℕ) (fits : FitsWidth cp d.now) (enough : length (built cp d.now) ≤ length room.now)
     (run : Bor (List ℕ)) (at : ℕ) (there : drop at run.now ≡ after) (work : MutBor (List ℕ)) (workAfter : List ℕ) where
   -- by `build_ddm_object`, then `object_at`
-  pub built_and_read : (κs κt : Lfts 2) (laid : Laid) (r : ObjectFound)
+  pub built_and_read : (κs κt : Lfts 2) (laid : Result ℕ Refused) (r : Result DdmObject Refused)
       → build_ddm_object.Post κs (cp, (d, (room, tt))) laid (cp, (d, (at_last room after, tt)))
       → object_at.Post κt (run, (at, (work, tt))) r (run, (at, (at_last work workAfter, tt)))
-      → (laid ≡ Bytes (length (built cp d.now))) × InRoom cp d.now room.now after × ReadsAs cp d.now run.now at (built_header d.now) work.now r workAfter
+      → (laid ≡ Ok (length (built cp d.now))) × InRoom cp d.now room.now after × ReadsAs cp d.now run.now at (built_header d.now) work.now r workAfter
   built_and_read κs κt laid r p q = laid_back cp d.now room.now after fits enough run.now at there laid p work.now r workAfter q
 
   -- by `lattrugone_build_ddm_object`, then `lattrugone_object`
@@ -136,10 +127,10 @@ module _ (cp fill : ℕ) (content : Bor (List ℕ)) (room : MutBor (List ℕ)) (
   d = take fill content.now
 
   -- by `DdmBuilder::build`, then `object_at`
-  pub builder_and_read : (κs κt : Lfts 2) (laid : Laid) (r : ObjectFound)
+  pub builder_and_read : (κs κt : Lfts 2) (laid : Result ℕ Refused) (r : Result DdmObject Refused)
       → build.Post κs (builder_of cp fill, (content, (room, tt))) laid (builder_of cp fill, (content, (at_last room after, tt)))
       → object_at.Post κt (run, (at, (work, tt))) r (run, (at, (at_last work workAfter, tt)))
-      → (laid ≡ Bytes (length (built cp d))) × InRoom cp d room.now after × ReadsAs cp d run.now at (built_header d) work.now r workAfter
+      → (laid ≡ Ok (length (built cp d))) × InRoom cp d room.now after × ReadsAs cp d run.now at (built_header d) work.now r workAfter
   builder_and_read κs κt laid r p q = build_back (builder_of cp fill) content.now room.now after fits inside enough run.now at there laid p work.now r workAfter q
 
   -- by `lattrugone_builder_build`, then `lattrugone_object`
@@ -153,10 +144,10 @@ module _ (cp fill : ℕ) (content : Bor (List ℕ)) (room : MutBor (List ℕ)) (
 
 -- The data themselves: `object_at`, and then `object_data` over the work area as that left it, hands back the data of the object that
 -- was given, in the run or in the work area, and nothing of one that was refused.
-pub data_are_handed_back : (κs : Lfts 2) (κt : Lfts 1) (run : Bor (List ℕ)) (work : MutBor (List ℕ)) (lent data-part : Bor (List ℕ)) (at : ℕ) (r : ObjectFound) (workAfter : List ℕ)
+pub data_are_handed_back : (κs : Lfts 2) (κt : Lfts 1) (run : Bor (List ℕ)) (work : MutBor (List ℕ)) (lent data-part : Bor (List ℕ)) (at : ℕ) (r : Result DdmObject Refused) (workAfter : List ℕ)
     → object_at.Post κs (run, (at, (work, tt))) r (run, (at, (at_last work workAfter, tt))) → lent.now ≡ workAfter
     → object_data.Post κt (run, (at, (lent, tt))) data-part (run, (at, (lent, tt)))
-    → ((o : DdmObject) → r ≡ Gives o → (x : Object) × (parsed (drop at run.now) at ≡ object x) × (data-part.now ≡ x.content)) × ((why : Refused) → r ≡ NotGiven why → data-part.now ≡ [])
+    → ((o : DdmObject) → r ≡ Ok o → (x : Object) × (parsed (drop at run.now) at ≡ object x) × (data-part.now ≡ x.content)) × ((why : Refused) → r ≡ Err why → data-part.now ≡ [])
 data_are_handed_back κs κt run work lent data-part at r workAfter p e q =
     (given_data κs κt run work lent data-part at r workAfter p e q, refused_none κs κt run work lent data-part at r workAfter p e q)
 
@@ -164,7 +155,7 @@ data_are_handed_back κs κt run work lent data-part at r workAfter p e q =
 
 module _ (l : List (ℕ × List ℕ)) (fit : Fit l) (bytes : Bor (List ℕ)) (built-so : bytes.now ≡ built_all l) (work : MutBor (List ℕ)) (workAfter : List ℕ) where
   module _ {M : Type 1} {𝓤 : Ura M} (𝓛 : Logic 𝓤) (mem : Memory → SProp 𝓤) (routines : Routine → Fun 𝓤) (κs : Lfts 3) (row : MutBor (List DdmObject)) (rowAfter : List DdmObject)
-      (enough : length l ≤ length row.now) (r : ObjectsFound) where
+      (enough : length l ≤ length row.now) (r : Result ObjectsFound Refused) where
     -- by `parameters`
     pub parameters_are_listed : ent 𝓤 ((parameters.clauses 𝓛 mem routines κs (bytes, (work, (row, tt)))).ensures tt r (bytes, (at_last work workAfter, (at_last row rowAfter, tt))))
         (fact 𝓤 (ListsAs l (built_all l) work.now row.now r workAfter rowAfter))
@@ -194,12 +185,12 @@ module _ (l : List (ℕ × List ℕ)) (fit : Fit l) (bytes : Bor (List ℕ)) (bu
 
 module _ (cp : ℕ) (bytes : Bor (List ℕ)) (work : MutBor (List ℕ)) (workAfter : List ℕ) where
   -- by `find_param`
-  module _ (κs : Lfts 2) (r : ObjectFound) (q : find_param.Post κs (bytes, (cp, (work, tt))) r (bytes, (cp, (at_last work workAfter, tt)))) where
+  module _ (κs : Lfts 2) (r : Result DdmObject Refused) (q : find_param.Post κs (bytes, (cp, (work, tt))) r (bytes, (cp, (at_last work workAfter, tt)))) where
     pub first_is_found : (d : List ℕ) (before rest : List (ℕ × List ℕ)) → let l = before ++ ((cp, d) ∷ rest) in Fit l → Lacks cp before → bytes.now ≡ built_all l
         → ReadsAs cp d (built_all l) (length (built_all before)) (built_header d) work.now r workAfter
     first_is_found = param_found κs cp bytes work r workAfter q
 
-    pub none_is_found : (l : List (ℕ × List ℕ)) → Fit l → Lacks cp l → bytes.now ≡ built_all l → (r ≡ NotGiven not_found) × (workAfter ≡ work.now)
+    pub none_is_found : (l : List (ℕ × List ℕ)) → Fit l → Lacks cp l → bytes.now ≡ built_all l → (r ≡ Err not_found) × (workAfter ≡ work.now)
     none_is_found = param_lacking κs cp bytes work r workAfter q
 
   -- by `lattrugone_find_param`
@@ -218,8 +209,8 @@ module _ (cp : ℕ) (bytes : Bor (List ℕ)) (work : MutBor (List ℕ)) (workAft
 
 module _ (cp fill c : ℕ) (d : Bor (List ℕ)) (room : MutBor (List ℕ)) (after : List ℕ) (enough : fill + length (built c d.now) ≤ length room.now) where
   -- by `add_code_point`
-  pub addition_is_made : (κs : Lfts 2) (r : Added) → add_code_point.Post κs (builder_of cp fill, (c, (d, (room, tt)))) r (builder_of cp fill, (c, (d, (at_last room after, tt))))
-      → (r ≡ Done (builder_of cp (fill + length (built c d.now)))) × (after ≡ splice room.now fill (built c d.now))
+  pub addition_is_made : (κs : Lfts 2) (r : Result DdmBuilder Refused) → add_code_point.Post κs (builder_of cp fill, (c, (d, (room, tt)))) r (builder_of cp fill, (c, (d, (at_last room after, tt))))
+      → (r ≡ Ok (builder_of cp (fill + length (built c d.now)))) × (after ≡ splice room.now fill (built c d.now))
   addition_is_made κs r p = addition_made (builder_of cp fill) (built c d.now) room.now enough r after p
 
   -- by `lattrugone_builder_add_code_point`
@@ -233,22 +224,22 @@ module _ (cp fill c : ℕ) (d : Bor (List ℕ)) (room : MutBor (List ℕ)) (afte
 module _ (cp : ℕ) (l : List (ℕ × List ℕ)) (fits : FitsWidth cp (built_all l)) (fit : Fit l) (start : List ℕ) (content : Bor (List ℕ)) (room : MutBor (List ℕ)) (after : List ℕ)
     (enough : length (built cp (built_all l)) ≤ length room.now) (run : Bor (List ℕ)) (at : ℕ) (there : drop at run.now ≡ after) (work : MutBor (List ℕ)) (workAfter : List ℕ) where
   -- by `add_code_point`, `add_u16` and `add_u32`, `build`, `object_at` and `parameters`
-  module _ (b : DdmBuilder) (added : ByCalls cp start l b content.now) (κs κt : Lfts 2) (laid : Laid) (r : ObjectFound)
+  module _ (b : DdmBuilder) (added : ByCalls cp start l b content.now) (κs κt : Lfts 2) (laid : Result ℕ Refused) (r : Result DdmObject Refused)
       (p : build.Post κs (b, (content, (room, tt))) laid (b, (content, (at_last room after, tt))))
       (q : object_at.Post κt (run, (at, (work, tt))) r (run, (at, (at_last work workAfter, tt)))) where
-    pub request_is_read : (laid ≡ Bytes (length (built cp (built_all l)))) × InRoom cp (built_all l) room.now after
+    pub request_is_read : (laid ≡ Ok (length (built cp (built_all l)))) × InRoom cp (built_all l) room.now after
         × ReadsAs cp (built_all l) run.now at (built_header (built_all l)) work.now r workAfter
     request_is_read =
         request_back cp l fits fit b content.now (calls_filled added) room.now after enough run.now at there laid p work.now r workAfter q
 
     pub request_is_listed : {M : Type 1} {𝓤 : Ura M} (𝓛 : Logic 𝓤) (mem : Memory → SProp 𝓤) (routines : Routine → Fun 𝓤) (κu : Lfts 3) (bytes : Bor (List ℕ)) (work' : MutBor (List ℕ)) (row : MutBor (List DdmObject))
-        (o : DdmObject) (x : ObjectsFound) (workAfter' : List ℕ) (rowAfter : List DdmObject) → r ≡ Gives o → bytes.now ≡ data_of run.now o → length l ≤ length row.now
+        (o : DdmObject) (x : Result ObjectsFound Refused) (workAfter' : List ℕ) (rowAfter : List DdmObject) → r ≡ Ok o → bytes.now ≡ data_of run.now o → length l ≤ length row.now
         → ent 𝓤 ((parameters.clauses 𝓛 mem routines κu (bytes, (work', (row, tt)))).ensures tt x (bytes, (at_last work' workAfter', (at_last row rowAfter, tt))))
         (fact 𝓤 (ListsAs l (data_of run.now o) work'.now row.now x workAfter' rowAfter))
     request_is_listed {𝓤 = 𝓤} 𝓛 mem routines κu bytes work' row o x workAfter' rowAfter g e k =
         fact_mono 𝓤 _ _
         (λ y. request_list cp l fits fit b content.now (calls_filled added) room.now after enough run.now at there laid p work.now o workAfter
-        (subst (λ (z : ObjectFound). ObjectAt run.now at work.now z workAfter) g q) work'.now row.now k x workAfter' rowAfter
+        (subst (λ (z : Result DdmObject Refused). ObjectAt run.now at work.now z workAfter) g q) work'.now row.now k x workAfter' rowAfter
         (subst (λ (s : List ℕ). ListsParameters s work'.now row.now x workAfter' rowAfter) e y))
 
   -- by the same calls exported
@@ -272,10 +263,10 @@ module _ (cp : ℕ) (l : List (ℕ × List ℕ)) (fits : FitsWidth cp (built_all
 
 module _ (n : ℕ) (bytes : Bor (List ℕ)) where
   -- by `as_u16`, `as_u32`
-  pub u16_comes_back : (κs : Lfts 1) (r : U16Found) → n < 65536 → bytes.now ≡ two n → as_u16.Post κs (bytes, tt) r (bytes, tt) → r ≡ U16 n
+  pub u16_comes_back : (κs : Lfts 1) (r : Result ℕ Refused) → n < 65536 → bytes.now ≡ two n → as_u16.Post κs (bytes, tt) r (bytes, tt) → r ≡ Ok n
   u16_comes_back κs r small e q = q ∙ ap u16_of e ∙ u16_back n small
 
-  pub u32_comes_back : (κs : Lfts 1) (r : U32Found) → n < 2 ^ 32 → bytes.now ≡ last 4 n → as_u32.Post κs (bytes, tt) r (bytes, tt) → r ≡ U32 n
+  pub u32_comes_back : (κs : Lfts 1) (r : Result ℕ Refused) → n < 2 ^ 32 → bytes.now ≡ last 4 n → as_u32.Post κs (bytes, tt) r (bytes, tt) → r ≡ Ok n
   u32_comes_back κs r small e q = q ∙ ap u32_of e ∙ u32_back n small
 
   -- by `lattrugone_as_u16`, `lattrugone_as_u32`
@@ -290,7 +281,7 @@ module _ (n : ℕ) (bytes : Bor (List ℕ)) where
 
 module _ (a s m : List ℕ) (first : length a ≡ 32757) (marked : Marked s m) (bytes : Bor (List ℕ)) (room : MutBor (List ℕ)) (with-markers : bytes.now ≡ a ++ s) (enough : length (a ++ m) ≤ length room.now) (after : List ℕ) where
   -- by `strip_extended_ddm_continuation_markers`
-  pub markers_come_out : (κs : Lfts 2) (r : Laid) → strip.Post κs (bytes, (room, tt)) r (bytes, (at_last room after, tt)) → LaidFirst (a ++ m) room.now r after
+  pub markers_come_out : (κs : Lfts 2) (r : Result ℕ Refused) → strip.Post κs (bytes, (room, tt)) r (bytes, (at_last room after, tt)) → LaidFirst (a ++ m) room.now r after
   markers_come_out κs r q = marks_stripped κs bytes room r after q a s m first marked enough with-markers
 
   -- by `lattrugone_strip_markers`

@@ -1,5 +1,6 @@
 -- The port has it: a theorem for each promise of document 02 on DDM objects, over the contracts of the Rattle calls and of the functions
 -- exported to C and Rust, in the words of KeptDdm.
+use Rattle.std.specs.Prelude.{Result, Ok, Err}
 use Prim.Native.Nat.{ℕ, ◌≤◌}
 use mathlib.Core.Logic.{◌↔◌}
 use mathlib.Core.Path.{◌≡◌, sym, ap₂, subst, ◌∙◌}
@@ -14,14 +15,11 @@ use contract.Lifetimes.{Lfts}
 use contract.Monad.{Fun, fact, fact_mono}
 use denote.Ref.{Bor, MutBor, at_last}
 use Rattle.wire.specs.Bytes.{splice}
-use Rattle.answer.specs.declared.Laid.TheVariants.{Bytes}
 use Rattle.ddm_builder.specs.Built.{built, built_all, Fit}
 use Rattle.ddm_builder.specs.declared.DdmBuilder.{DdmBuilder}
 use Rattle.ddm_builder.proofs.DdmBuilder.build.Reads as build
 use Rattle.ddm_object.specs.Objects.{parameters}
 use Rattle.ddm_object.specs.ObjectCalls.{end_at, param_step_at}
-use Rattle.ddm_object.specs.declared.Stepped.{Stepped}
-use Rattle.ddm_object.specs.declared.Stepped.TheVariants.{Refused as NoStep}
 use Rattle.ddm_rows.specs.declared.Walker.{Walker}
 use Rattle.ddm_rows.specs.contracts.Walker.step as step
 use Rattle.gateway_words.specs.AnswerWords.{Answered, answer_len}
@@ -36,6 +34,8 @@ use Rattle.demands_ddm.specs.TwoLists.{StepGives, WalkGives, TwoLists}
 use Rattle.demands_ddm.proofs.Adding.{calls_filled, words_filled}
 use Rattle.demands_ddm.proofs.TwoLists.{walk_mono, built_walked, step_gives, two_lists, step_said, end_said, object_laid, object_said, same_filled, same_object}
 use Rattle.demands_ddm.proofs.ListsAdded.{added_by_calls, added_in_words}
+use Rattle.ddm_object.specs.declared.DdmObject.{DdmObject}
+use Rattle.answer.specs.declared.Refused.{Refused}
 
 -- ---- W-213: "for any list of code points with data, built one behind the other, the parameter walk gives back that list and ends at
 -- ---- the last byte; so different lists never build to equal bytes"
@@ -50,10 +50,10 @@ different_lists_differ l m fit fit' n e = n (two_lists.same_list l m fit fit' e)
 module _ (l : List (ℕ × List ℕ)) (fit : Fit l) where
   -- by `Walker::step`, of any walker over the data: `Walker::new` makes one at 0, `moved` one at the next place
   pub walker_gives_back : {M : Type 1} {𝓤 : Ura M} (𝓛 : Logic 𝓤) (mem : Memory → SProp 𝓤) (routines : Routine → Fun 𝓤) (κs : Lfts 1)
-      → WalkGives (λ at cp d next. (w : Walker) (r : Stepped) → w.«data».now ≡ built_all l → w.at ≡ at
+      → WalkGives (λ at cp d next. (w : Walker) (r : Result (DdmObject × ℕ) Refused) → w.«data».now ≡ built_all l → w.at ≡ at
       → ent 𝓤 ((step.clauses 𝓛 mem routines κs (w, tt)).ensures tt r (w, tt)) (fact 𝓤 (StepGives (built_all l) cp d next r)))
-      (λ at. (w : Walker) (r : Stepped) → w.«data».now ≡ built_all l → w.at ≡ at
-      → ent 𝓤 ((step.clauses 𝓛 mem routines κs (w, tt)).ensures tt r (w, tt)) (fact 𝓤 (r ≡ NoStep (end_at at)))) 0 l (length (built_all l))
+      (λ at. (w : Walker) (r : Result (DdmObject × ℕ) Refused) → w.«data».now ≡ built_all l → w.at ≡ at
+      → ent 𝓤 ((step.clauses 𝓛 mem routines κs (w, tt)).ensures tt r (w, tt)) (fact 𝓤 (r ≡ Err (end_at at)))) 0 l (length (built_all l))
   walker_gives_back {𝓤 = 𝓤} 𝓛 mem routines κs =
       walk_mono
       (λ at cp d next x w r e k. fact_mono 𝓤 _ _ (λ y. subst (StepGives (built_all l) cp d next) (sym (y ∙ ap₂ param_step_at e k)) (step_gives (built_all l) at cp d next x)))
@@ -95,8 +95,8 @@ module _ (l m : List (ℕ × List ℕ)) (fit : Fit l) (fit' : Fit m) (cp cp' : �
 
     -- and `build`, answered with how many bytes: the code points are those of the objects
     pub equal_objects : (κs κt : Lfts 2) (room room' : MutBor (List ℕ)) (n n' : ℕ) (after after' : List ℕ) → FitsWidth cp (built_all l) → FitsWidth cp' (built_all m)
-        → build.Post κs (b, (content, (room, tt))) (Bytes n) (b, (content, (at_last room after, tt)))
-        → build.Post κt (b', (content', (room', tt))) (Bytes n') (b', (content', (at_last room' after', tt)))
+        → build.Post κs (b, (content, (room, tt))) (Ok n) (b, (content, (at_last room after, tt)))
+        → build.Post κt (b', (content', (room', tt))) (Ok n') (b', (content', (at_last room' after', tt)))
         → (take n after ≡ take n' after') ↔ ((cp ≡ cp') × (l ≡ m))
     equal_objects κs κt room room' n n' after after' w w' p p' =
         same_object l m fit fit' cp cp' w w' (object_laid cp l b content.now (calls_filled added) room.now after n p)

@@ -1,5 +1,6 @@
 -- One request, through all calls: the premises of Kept's theorems are met, by computation. Two parameters are added, the object is
 -- built, read back at place 2 of a run, its parameters are listed, and one is found; first in words, then in records.
+use Rattle.std.specs.Prelude.{Ok}
 use Prim.Native.Nat.{ℕ, ◌≤◌}
 use native.Mathlib.Omega.{arith}
 use mathlib.Core.Path.{◌≡◌, refl}
@@ -7,7 +8,6 @@ use mathlib.Core.List.{List, [], ◌∷◌, ◌++◌}
 use lib.ListN.{length, drop, replicate, length-append}
 use contract.Lifetimes.{Lfts}
 use Rattle.wire.specs.Bytes.{last, splice, laid}
-use Rattle.answer.specs.declared.Laid.TheVariants.{Bytes}
 use Rattle.layouts.specs.DdmLayout.{streamed}
 use Rattle.ddm_length.specs.Lengths.{measured, marshaled}
 use Rattle.ddm_length.specs.Markers.{unmarked, ends, fe}
@@ -16,7 +16,6 @@ use Rattle.ddm_builder.specs.declared.DdmBuilder.{DdmBuilder}
 use Rattle.ddm_object.specs.Objects.{parsed, parameters, parameters_fuel}
 use Rattle.ddm_object.specs.ObjectCalls.{object_at, find_from, work_found}
 use Rattle.ddm_rows.specs.ListCalls.{object_records, works_of}
-use Rattle.ddm_object.specs.declared.ObjectFound.TheVariants.{Object as Gives}
 use Rattle.gateway_object.proofs.lattrugone_strip_markers.Reads as lattrugone_strip_markers
 use Rattle.gateway_object_rows.specs.ListWords.{list_row}
 use Rattle.demands_ddm.specs.ReadingBack.{plain, InRoom, ReadsAs, built_header, Lacks}
@@ -134,9 +133,9 @@ module _ (κ₂ : Lfts 2) (κ₃ : Lfts 3) (κ₄ : Lfts 4) where
       call (call no_call κ₂ 0x2110 (lent (0xC1 ∷ [])) (lent_room (replicate 10 9)) (builder 5) one refl (record { answers = refl; room_is = refl }))
       κ₂ 0x112F (lent []) (lent_room one) (builder 9) both refl (record { answers = refl; room_is = refl })
 
-  pub read_by_calls : (Bytes 13 ≡ Bytes (length (built 0x1041 (built_all params)))) × InRoom 0x1041 (built_all params) (replicate 14 9) object
-      × ReadsAs 0x1041 (built_all params) run 2 (built_header (built_all params)) [] (Gives (plain 2 0x1041 4 9)) []
+  pub read_by_calls : (Ok 13 ≡ Ok (length (built 0x1041 (built_all params)))) × InRoom 0x1041 (built_all params) (replicate 14 9) object
+      × ReadsAs 0x1041 (built_all params) run 2 (built_header (built_all params)) [] (Ok (plain 2 0x1041 4 9)) []
   unfolding lent lent_room params both object run built length_bytes last laid splice object_at parsed measured marshaled
   read_by_calls =
       request_is_read 0x1041 params (omega arith, omega (arith, params_fit.2)) params_fit.0 (replicate 10 9) (lent both) (lent_room (replicate 14 9)) object (omega (arith, params_fit.3)) (lent run) 2 refl (lent_room []) [] (builder 9)
-      added_by_calls κ₂ κ₂ (Bytes 13) (Gives (plain 2 0x1041 4 9)) (record { answers = refl; room_is = refl }) (record { answers = refl; work_is = refl })
+      added_by_calls κ₂ κ₂ (Ok 13) (Ok (plain 2 0x1041 4 9)) (record { answers = refl; room_is = refl }) (record { answers = refl; work_is = refl })

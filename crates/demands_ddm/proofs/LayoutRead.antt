@@ -1,4 +1,5 @@
 -- Bytes that have DRDA volume 3's layout of an object are read as it says, wherever they stand; so are the bytes that are built.
+use Rattle.std.specs.Prelude.{Result, Ok}
 use Prim.Native.Nat.{ℕ, ◌+◌, ◌-◌, ◌^◌, ◌≤◌, ◌<◌}
 use native.Mathlib.Omega.{arith}
 use mathlib.Core.Path.{◌≡◌, refl, sym, ap, ap₂, subst, ◌∙◌}
@@ -20,11 +21,11 @@ use Rattle.ddm_object.specs.Objects.{object, parsed}
 use Rattle.ddm_object.specs.ObjectCalls.{lies_in_work, work_of, object_record, given_parsed, work_parsed, object_at, ObjectAt}
 use Rattle.ddm_object.proofs.DataParsed.{data_parsed}
 use Rattle.ddm_object.proofs.ObjectReads.{made}
-use Rattle.ddm_object.specs.declared.ObjectFound.{ObjectFound}
-use Rattle.ddm_object.specs.declared.ObjectFound.TheVariants.{Object as Gives}
 use Rattle.ddm_laws.proofs.FormLaws.{some_bytes}
 use Rattle.ddm_laws.proofs.LayoutLaws.{built_ddm, built_ends, ddm_parsed}
 use Rattle.demands_ddm.specs.ReadingBack.{plain, data_of, built_header, ReadsAs}
+use Rattle.ddm_object.specs.declared.DdmObject.{DdmObject}
+use Rattle.answer.specs.declared.Refused.{Refused}
 
 -- the data are the last bytes
 pub ends_with : {cp : ℕ} {d p : List ℕ} → Ddm cp d p → (h : List ℕ) × (p ≡ h ++ d) × (4 ≤ length h)
@@ -85,7 +86,7 @@ module _ (cp : ℕ) (d p : List ℕ) (w : Ddm cp d p) (small : cp < 65536) (few 
       ∙ take_at d rest (length d) refl
 
   -- what the contract of `object_at` allows
-  pub layout_read : (work : List ℕ) (r : ObjectFound) (after : List ℕ) → ObjectAt s place work r after → ReadsAs cp d s place (length p - length d) work r after
+  pub layout_read : (work : List ℕ) (r : Result DdmObject Refused) (after : List ℕ) → ObjectAt s place work r after → ReadsAs cp d s place (length p - length d) work r after
   unfolding object_at
   layout_read work r after x =
       let l : length s - place ≡ length p + length rest = here_length s p rest place e in
@@ -95,7 +96,7 @@ module _ (cp : ℕ) (d p : List ℕ) (w : Ddm cp d p) (small : cp < 65536) (few 
             ∙ pick_yes _ _ (le-leb place (length s) (omega (arith, size)))
             ∙ ap (given_parsed s place (length work)) parsed_there
             ∙ pick_yes _ _ (ap (λ (b : List ℕ). leb (length b) (length work)) no_work ∙ le-leb 0 (length work) (omega arith))
-            ∙ ap Gives record_there;
+            ∙ ap Ok record_there;
         data_is = data_there;
         work_is = x.work_is ∙ ap (work_parsed s place work) parsed_there ∙ ap (laid work 0) no_work ∙ nothing_laid work;
       }
@@ -122,7 +123,7 @@ module _ (cp : ℕ) (d : List ℕ) (small : cp < 65536) (few : length d < 2 ^ 63
   header = omega (arith, length_built cp d)
 
   -- one law for every number of length bytes
-  pub built_read : (work : List ℕ) (r : ObjectFound) (after : List ℕ) → ObjectAt s place work r after → ReadsAs cp d s place (built_header d) work r after
+  pub built_read : (work : List ℕ) (r : Result DdmObject Refused) (after : List ℕ) → ObjectAt s place work r after → ReadsAs cp d s place (built_header d) work r after
   built_read work r after x =
       subst (λ (h : ℕ). ReadsAs cp d s place h work r after) header (layout_read cp d (built cp d) (built_ddm cp d few) small few s rest place e alone plain_data work r after x)
 
@@ -136,7 +137,7 @@ module _ (cp : ℕ) (d : List ℕ) (small : cp < 65536) (few : length d < 2 ^ 63
   built_data = data_handed cp d (built cp d) (built_ddm cp d few) small few s rest place e alone plain_data
 
   -- the four forms: inline, and with four, six or eight length bytes
-  module _ (work : List ℕ) (r : ObjectFound) (after : List ℕ) (x : ObjectAt s place work r after) where
+  module _ (work : List ℕ) (r : Result DdmObject Refused) (after : List ℕ) (x : ObjectAt s place work r after) where
     with_bytes : (k : ℕ) → length_bytes (length d) ≡ k → ReadsAs cp d s place (4 + k) work r after
     with_bytes k q = subst (λ (j : ℕ). ReadsAs cp d s place (4 + j) work r after) q (built_read work r after x)
 

@@ -1,5 +1,6 @@
 -- Objects built one behind the other: `parameters` and `parse_ddm_objects` list just those, and `find_param` gives the first with a
 -- code point.
+use Rattle.std.specs.Prelude.{Result, Ok}
 use Prim.Native.Nat.{ℕ, suc, ◌+◌, ◌≤◌}
 use native.Mathlib.Omega.{arith}
 use mathlib.Core.Path.{◌≡◌, refl, ap, ap₂, ◌∙◌}
@@ -15,11 +16,12 @@ use Rattle.ddm_builder.specs.Built.{built, built_all, Fit}
 use Rattle.ddm_object.specs.Objects.{Object, parameters, all_objects}
 use Rattle.ddm_rows.specs.ListCalls.{works_of, object_records, objects_fit, given_objects, given_list, listed, ParsesObjects, ListsParameters}
 use Rattle.ddm_object.specs.declared.DdmObject.{DdmObject}
-use Rattle.ddm_rows.specs.declared.ObjectsFound.{ObjectsFound}
-use Rattle.ddm_rows.specs.declared.ObjectsFound.TheVariants.{Objects}
 use Rattle.ddm_laws.proofs.BuiltLists.{objects_of, parameters_joined, objects_joined}
 use Rattle.demands_ddm.specs.ReadingBack.{records_built, AllSay, ListsAs}
 use Rattle.demands_ddm.proofs.LayoutRead.{built_no_work, built_record}
+use Rattle.ddm_rows.specs.declared.ObjectsFound.{ObjectsFound}
+use Rattle.answer.specs.declared.Refused.{Refused}
+use Rattle.ddm_rows.specs.ListCalls.{objects_found}
 
 count : (l : List (ℕ × List ℕ)) → length (objects_of l) ≡ length l
 count [] = refl
@@ -54,11 +56,11 @@ module _ (l : List (ℕ × List ℕ)) (g : Fit l) (size rows : ℕ) (h : length 
       and_both _ _ (le-leb (length (works_of (built_all l) 0 (objects_of l))) size (omega (arith, ap length works_none)))
       (le-leb (length (objects_of l)) rows (omega (arith, count l)))
 
-  pub given_listed : given_objects (built_all l) size rows (objects_of l) ≡ Objects (length l) 0
-  given_listed = pick_yes _ _ fit_listed ∙ ap₂ (λ (n m : ℕ). Objects n m) (count l) (ap length works_none)
+  pub given_listed : given_objects (built_all l) size rows (objects_of l) ≡ Ok (objects_found (length l) 0)
+  given_listed = pick_yes _ _ fit_listed ∙ ap₂ (λ (n m : ℕ). Ok (objects_found n m)) (count l) (ap length works_none)
 
 -- whatever call lists them
-module _ (l : List (ℕ × List ℕ)) (g : Fit l) (work : List ℕ) (row : List DdmObject) (h : length l ≤ length row) (r : ObjectsFound) (workAfter : List ℕ) (rowAfter : List DdmObject) where
+module _ (l : List (ℕ × List ℕ)) (g : Fit l) (work : List ℕ) (row : List DdmObject) (h : length l ≤ length row) (r : Result ObjectsFound Refused) (workAfter : List ℕ) (rowAfter : List DdmObject) where
   abbrev s : List ℕ
   s = built_all l
 
@@ -68,10 +70,10 @@ module _ (l : List (ℕ × List ℕ)) (g : Fit l) (work : List ℕ) (row : List 
   fit : objects_fit s (objects_of l) (length work) (length row) ≡ true
   fit = fit_listed l g (length work) (length row) h
 
-  given : given_objects s (length work) (length row) (objects_of l) ≡ Objects (length l) 0
+  given : given_objects s (length work) (length row) (objects_of l) ≡ Ok (objects_found (length l) 0)
   given = given_listed l g (length work) (length row) h
 
-  lists_as : (os : List Object) → os ≡ objects_of l → r ≡ Objects (length l) 0
+  lists_as : (os : List Object) → os ≡ objects_of l → r ≡ Ok (objects_found (length l) 0)
       → workAfter ≡ landed (objects_fit s os (length work) (length row)) work (works_of s 0 os)
       → rowAfter ≡ landed (objects_fit s os (length work) (length row)) row (object_records s 0 os)
       → ListsAs l s work row r workAfter rowAfter

@@ -1,4 +1,5 @@
 -- Any list is added, parameter by parameter, in a room that has room for it: by the calls, and by those exported.
+use Rattle.std.specs.Prelude.{Result}
 use Prim.Native.Nat.{ℕ, ◌+◌, ◌≤◌}
 use native.Mathlib.Omega.{arith}
 use mathlib.Core.Path.{◌≡◌, refl, sym, ap, subst, subst₂, ◌∙◌}
@@ -8,7 +9,6 @@ use contract.Lifetimes.{Lfts}
 use denote.Ref.{Bor, MutBor}
 use Rattle.wire.specs.Bytes.{splice, laid}
 use Rattle.wire.proofs.Splicing.{splice_none, splice_length, splice_splice, laid_fits}
-use Rattle.answer.specs.declared.RoomFor.{RoomFor}
 use Rattle.ddm_builder.specs.Built.{built, built_all}
 use Rattle.ddm_builder.specs.Builder.{added_by}
 use Rattle.gateway_words.specs.AnswerWords.{done_words}
@@ -16,6 +16,7 @@ use Rattle.gateway_builder.specs.BuilderWords.{builder_of, adding, added_words}
 use Rattle.demands_ddm.specs.Adding.{ByCalls, ByWords, no_call, call, no_word, word}
 use Rattle.demands_ddm.proofs.Requests.{joined_append}
 use Rattle.demands_ddm.proofs.Adding.{room_enough}
+use Rattle.answer.specs.declared.Refused.{Refused}
 
 -- a slice that holds these, wherever it stands
 unfoldable pub lent : List ℕ → Bor (List ℕ)
@@ -78,8 +79,8 @@ added_in_words κs start =
     word a κs c (lent d) (lent_room now) (lent_room zeros) (splice now fill p) (done_words (fill + length p) 0 0 0) refl (omega arith)
     (record {
       answers = record {
-        number_is = ap (λ (x : RoomFor). get_or (added_words (added_by (adding fill) (length p) x)) 0 0) e;
-        words_are = ap (λ (x : RoomFor). laid zeros 0 (added_words (added_by (adding fill) (length p) x))) e;
+        number_is = ap (λ (x : Result (Unit {0}) Refused). get_or (added_words (added_by (adding fill) (length p) x)) 0 0) e;
+        words_are = ap (λ (x : Result (Unit {0}) Refused). laid zeros 0 (added_words (added_by (adding fill) (length p) x))) e;
       };
       room_is = sym (laid_fits now fill p h);
     }))

@@ -1,20 +1,16 @@
 -- An object built parameter by parameter, laid into a room, read from wherever the room's bytes then stand, and its parameters listed:
 -- in records, and in words.
+use Rattle.std.specs.Prelude.{Result, Ok}
 use Prim.Native.Nat.{ℕ, ◌*◌, ◌≤◌}
 use mathlib.Core.Path.{◌≡◌, sym, ap, subst, subst₂, ◌∙◌}
 use mathlib.Core.List.{List}
 use lib.ListN.{length, get_or, take, drop}
-use Rattle.answer.specs.declared.Laid.{Laid}
-use Rattle.answer.specs.declared.Laid.TheVariants.{Bytes}
 use Rattle.ddm_builder.specs.Built.{built, built_all, Fit}
 use Rattle.ddm_builder.specs.Builder.{Builds}
 use Rattle.ddm_builder.specs.declared.DdmBuilder.{DdmBuilder}
 use Rattle.ddm_object.specs.ObjectCalls.{ObjectAt}
 use Rattle.ddm_rows.specs.ListCalls.{ListsParameters}
 use Rattle.ddm_object.specs.declared.DdmObject.{DdmObject}
-use Rattle.ddm_object.specs.declared.ObjectFound.{ObjectFound}
-use Rattle.ddm_object.specs.declared.ObjectFound.TheVariants.{Object as Gives}
-use Rattle.ddm_rows.specs.declared.ObjectsFound.{ObjectsFound}
 use Rattle.gateway_object.specs.ObjectWords.{ReadsObject}
 use Rattle.gateway_object_rows.specs.ListWords.{ParametersWords}
 use Rattle.gateway_builder.specs.BuilderWords.{Makes}
@@ -25,6 +21,8 @@ use Rattle.demands_ddm.proofs.Requests.{FilledRequest}
 use Rattle.demands_ddm.proofs.Listing.{parameters_listed}
 use Rattle.demands_ddm.proofs.Said.{said_parameters}
 use Rattle.demands_ddm.proofs.Back.{build_back, build_back_said}
+use Rattle.ddm_rows.specs.declared.ObjectsFound.{ObjectsFound}
+use Rattle.answer.specs.declared.Refused.{Refused}
 
 module _ (cp : ℕ) (l : List (ℕ × List ℕ)) (fits : FitsWidth cp (built_all l)) (fit : Fit l) (b : DdmBuilder) (content : List ℕ) (f : FilledRequest cp l b content)
     (room after : List ℕ) (h : length (built cp (built_all l)) ≤ length room) (run : List ℕ) (at : ℕ) (e : drop at run ≡ after) where
@@ -35,17 +33,17 @@ module _ (cp : ℕ) (l : List (ℕ × List ℕ)) (fits : FitsWidth cp (built_all
   own_room : length (built b.code_point (take b.fill content)) ≤ length room
   own_room = subst₂ (λ (c : ℕ) (d : List ℕ). length (built c d) ≤ length room) (sym f.code_point) (sym f.filled) h
 
-  pub request_back : (r : Laid) → Builds b content room r after → (work : List ℕ) (x : ObjectFound) (workAfter : List ℕ) → ObjectAt run at work x workAfter
-      → (r ≡ Bytes (length (built cp (built_all l)))) × InRoom cp (built_all l) room after × ReadsAs cp (built_all l) run at (built_header (built_all l)) work x workAfter
+  pub request_back : (r : Result ℕ Refused) → Builds b content room r after → (work : List ℕ) (x : Result DdmObject Refused) (workAfter : List ℕ) → ObjectAt run at work x workAfter
+      → (r ≡ Ok (length (built cp (built_all l)))) × InRoom cp (built_all l) room after × ReadsAs cp (built_all l) run at (built_header (built_all l)) work x workAfter
   request_back r p work x workAfter q =
-      subst₂ (λ (c : ℕ) (d : List ℕ). (r ≡ Bytes (length (built c d))) × InRoom c d room after × ReadsAs c d run at (built_header d) work x workAfter) f.code_point f.filled
+      subst₂ (λ (c : ℕ) (d : List ℕ). (r ≡ Ok (length (built c d))) × InRoom c d room after × ReadsAs c d run at (built_header d) work x workAfter) f.code_point f.filled
       (build_back b content room after own_fits f.inside own_room run at e r p work x workAfter q)
 
-  pub request_list : (r : Laid) → Builds b content room r after → (work : List ℕ) (o : DdmObject) (workAfter : List ℕ) → ObjectAt run at work (Gives o) workAfter
-      → (work' : List ℕ) (row : List DdmObject) → length l ≤ length row → (x : ObjectsFound) (workAfter' : List ℕ) (rowAfter : List DdmObject)
+  pub request_list : (r : Result ℕ Refused) → Builds b content room r after → (work : List ℕ) (o : DdmObject) (workAfter : List ℕ) → ObjectAt run at work (Ok o) workAfter
+      → (work' : List ℕ) (row : List DdmObject) → length l ≤ length row → (x : Result ObjectsFound Refused) (workAfter' : List ℕ) (rowAfter : List DdmObject)
       → ListsParameters (data_of run o) work' row x workAfter' rowAfter → ListsAs l (data_of run o) work' row x workAfter' rowAfter
   request_list r p work o workAfter q work' row k x workAfter' rowAfter y =
-      let v = (request_back r p work (Gives o) workAfter q).2 in
+      let v = (request_back r p work (Ok o) workAfter q).2 in
       let same : o ≡ plain at cp (built_header (built_all l)) (length (built_all l)) = cc v.is in
       let d : data_of run o ≡ built_all l = ap (data_of run) same ∙ v.data_is in
       subst (λ (s : List ℕ). ListsAs l s work' row x workAfter' rowAfter) (sym d)

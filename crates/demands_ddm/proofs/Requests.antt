@@ -1,4 +1,5 @@
 -- What an object built parameter by parameter has as its data: those parameters, one behind the other.
+use Rattle.std.specs.Prelude.{Result, Ok, Err}
 use Prim.Native.Nat.{ℕ, ◌+◌, ◌-◌, ◌≤◌}
 use native.Mathlib.Omega.{arith}
 use mathlib.Core.Path.{◌≡◌, refl, sym, ap, ap₂, ◌∙◌}
@@ -11,13 +12,11 @@ use Rattle.wire.specs.Bytes.{splice}
 use Rattle.wire.proofs.WireLaws.{picked}
 use Rattle.wire.proofs.Splicing.{laid_fits}
 use Rattle.answer.specs.Rooms.{room_for}
-use Rattle.answer.specs.declared.RoomFor.{RoomFor}
-use Rattle.answer.specs.declared.RoomFor.TheVariants.{Enough, Refused as Refuses}
 use Rattle.ddm_builder.specs.Built.{built, built_all}
 use Rattle.ddm_builder.specs.Builder.{added_by, Adds}
 use Rattle.ddm_builder.specs.declared.DdmBuilder.{DdmBuilder}
-use Rattle.ddm_builder.specs.declared.Added.TheVariants.{Done}
 use Rattle.demands_ddm.specs.ReadingBack.{Added, none, more}
+use Rattle.answer.specs.declared.Refused.{Refused}
 
 pub joined_append : (l m : List (ℕ × List ℕ)) → built_all (l ++ m) ≡ built_all l ++ built_all m
 joined_append [] m = refl
@@ -29,10 +28,10 @@ record AddedOne (b : DdmBuilder) (bytes now : List ℕ) (next : DdmBuilder) (aft
   state : next ≡ record { code_point = b.code_point; fill = b.fill + length bytes }
   room_is : after ≡ splice now b.fill bytes
 
-added_one : (b : DdmBuilder) (bytes now : List ℕ) (next : DdmBuilder) (after : List ℕ) → Adds b bytes now (Done next) after → AddedOne b bytes now next after
+added_one : (b : DdmBuilder) (bytes now : List ℕ) (next : DdmBuilder) (after : List ℕ) → Adds b bytes now (Ok next) after → AddedOne b bytes now next after
 added_one b bytes now next after p = go (room_for b.fill (length now) (length bytes)) refl p.answers
   where
-    fit : room_for b.fill (length now) (length bytes) ≡ Enough → b.fill + length bytes ≤ length now
+    fit : room_for b.fill (length now) (length bytes) ≡ Ok tt → b.fill + length bytes ≤ length now
     fit e =
         picked (leb b.fill (length now)) e
         (λ t k. picked (leb (length bytes) (length now - b.fill)) k
@@ -40,14 +39,14 @@ added_one b bytes now next after p = go (room_for b.fill (length now) (length by
         (λ u j. let z : ◌≡◌ {A = ℕ} 0 1 = cc in absurd (omega arith)))
         (λ t k. let z : ◌≡◌ {A = ℕ} 0 1 = cc in absurd (omega arith))
 
-    go : (x : RoomFor) → room_for b.fill (length now) (length bytes) ≡ x → Done next ≡ added_by b (length bytes) x → AddedOne b bytes now next after
-    go Enough e q =
+    go : (x : Result (Unit {0}) Refused) → room_for b.fill (length now) (length bytes) ≡ x → Ok next ≡ added_by b (length bytes) x → AddedOne b bytes now next after
+    go (Ok tt) e q =
         record {
           fits = fit e;
           state = cc;
           room_is = p.room_is ∙ laid_fits now b.fill bytes (fit e);
         }
-    go (Refuses r) e q = absurd (let z : ◌≡◌ {A = ℕ} 0 1 = cc in omega arith)
+    go (Err r) e q = absurd (let z : ◌≡◌ {A = ℕ} 0 1 = cc in omega arith)
 
 -- what the builder then has: its code point, and in the filled part of the room the parameters
 pub record FilledRequest (cp : ℕ) (l : List (ℕ × List ℕ)) (b : DdmBuilder) (now : List ℕ) : Type 0 where

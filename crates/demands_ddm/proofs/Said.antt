@@ -1,4 +1,5 @@
 -- From an answer in words to what a caller looks up there.
+use Rattle.std.specs.Prelude.{Result, Ok, Err}
 use Prim.Native.Nat.{ℕ, suc, ◌+◌, ◌*◌, ◌≤◌}
 use native.Mathlib.Omega.{arith}
 use mathlib.Core.Path.{◌≡◌, refl, sym, ap, subst, ◌∙◌}
@@ -10,17 +11,12 @@ use Rattle.wire.specs.Bytes.{splice, landed}
 use Rattle.wire.proofs.WireLaws.{pick_yes}
 use Rattle.wire.proofs.Splicing.{laid_fits, splice_none}
 use Rattle.answer.specs.Rooms.{laid_at_start}
-use Rattle.answer.specs.declared.Laid.{Laid}
 use Rattle.ddm_builder.specs.Built.{built, built_all, Fit}
 use Rattle.ddm_builder.proofs.BuiltForms.{length_built}
 use Rattle.ddm_object.specs.Objects.{Object, parameters, all_objects}
 use Rattle.ddm_object.specs.ObjectCalls.{not_found}
 use Rattle.ddm_rows.specs.ListCalls.{works_of, object_records, objects_fit, given_objects, given_list, listed}
 use Rattle.ddm_object.specs.declared.DdmObject.{DdmObject}
-use Rattle.ddm_object.specs.declared.ObjectFound.{ObjectFound}
-use Rattle.ddm_object.specs.declared.ObjectFound.TheVariants.{Refused as NotGiven}
-use Rattle.ddm_rows.specs.declared.ObjectsFound.{ObjectsFound}
-use Rattle.ddm_rows.specs.declared.ObjectsFound.TheVariants.{Objects}
 use Rattle.ddm_laws.proofs.BuiltLists.{objects_of, parameters_joined, objects_joined}
 use Rattle.gateway_words.specs.AnswerWords.{done_words, laid_words, Answered}
 use Rattle.gateway_object.specs.ObjectWords.{object_words, found_words}
@@ -29,6 +25,9 @@ use Rattle.gateway_object_rows.proofs.FillingLaws.{row_length}
 use Rattle.demands_ddm.specs.ReadingBack.{plain, data_of, built_header, records_built, AllSay, ReadsAs}
 use Rattle.demands_ddm.specs.ReadingWords.{SaysInWords, AnswersNumber, AnswersObject, RowSays, AnswersList, AnswersNone}
 use Rattle.demands_ddm.proofs.Listing.{rest_of, fit_listed, given_listed}
+use Rattle.ddm_rows.specs.declared.ObjectsFound.{ObjectsFound}
+use Rattle.answer.specs.declared.Refused.{Refused}
+use Rattle.ddm_rows.specs.ListCalls.{objects_found}
 
 -- the words, where there are eight: the answer's, and behind them what was there
 pub after_is : (answer words : List ℕ) (r : ℕ) (after : List ℕ) → length answer ≡ 8 → 8 ≤ length words → Answered answer words r after → after ≡ answer ++ drop 8 words
@@ -53,16 +52,16 @@ module _ (words : List ℕ) (r : ℕ) (after : List ℕ) (h : 8 ≤ length words
 
   -- bytes laid down where there is room
   pub said_laid : (place size n : ℕ) → n ≤ size → Answered (laid_words (laid_at_start place size n)) words r after → AnswersNumber n words r after
-  said_laid place size n f a = said_number n (subst (λ (x : Laid). Answered (laid_words x) words r after) (pick_yes _ _ (le-leb n size f)) a)
+  said_laid place size n f a = said_number n (subst (λ (x : Result ℕ Refused). Answered (laid_words x) words r after) (pick_yes _ _ (le-leb n size f)) a)
 
   says_plain : (cp : ℕ) (d s : List ℕ) (place header : ℕ) (rest : List ℕ) → data_of s (plain place cp header (length d)) ≡ d
       → SaysInWords cp d s (header + length d) (object_words (plain place cp header (length d)) ++ rest)
   says_plain cp d s place header rest e = record { number = refl; code_point = refl; in_run = refl; data_is = e; data_length = refl; takes_so_many = refl }
 
-  pub said_object : (cp : ℕ) (d s : List ℕ) (place header : ℕ) (work workAfter : List ℕ) (x : ObjectFound) → ReadsAs cp d s place header work x workAfter
+  pub said_object : (cp : ℕ) (d s : List ℕ) (place header : ℕ) (work workAfter : List ℕ) (x : Result DdmObject Refused) → ReadsAs cp d s place header work x workAfter
       → Answered (found_words x) words r after → AnswersObject cp d s (header + length d) work words r workAfter after
   said_object cp d s place header work workAfter x p a =
-      let b = subst (λ (y : ObjectFound). Answered (found_words y) words r after) p.is a in
+      let b = subst (λ (y : Result DdmObject Refused). Answered (found_words y) words r after) p.is a in
       let w = after_is _ words r after refl h b in
       record {
         done = b.number_is;
@@ -71,10 +70,10 @@ module _ (words : List ℕ) (r : ℕ) (after : List ℕ) (h : 8 ≤ length words
         work_is = p.work_is;
       }
 
-  pub said_none : (work workAfter : List ℕ) (x : ObjectFound) → x ≡ NotGiven not_found → workAfter ≡ work → Answered (found_words x) words r after
+  pub said_none : (work workAfter : List ℕ) (x : Result DdmObject Refused) → x ≡ Err not_found → workAfter ≡ work → Answered (found_words x) words r after
       → AnswersNone work words r workAfter after
   said_none work workAfter x e k a =
-      let b = subst (λ (y : ObjectFound). Answered (found_words y) words r after) e a in
+      let b = subst (λ (y : Result DdmObject Refused). Answered (found_words y) words r after) e a in
       let w = after_is _ words r after refl h b in
       record { none = b.number_is; number = ap (λ (y : List ℕ). get_or y 0 0) w; behind = ap (drop 8) w; work_is = k }
 
@@ -101,7 +100,7 @@ module _ (l : List (ℕ × List ℕ)) (g : Fit l) (work row words : List ℕ) (h
   few : length l ≤ records row
   few = omega arith
 
-  said_list : (os : List Object) (x : ObjectsFound) → os ≡ objects_of l → x ≡ Objects (length l) 0 → Answered (list_words x) words r after
+  said_list : (os : List Object) (x : Result ObjectsFound Refused) → os ≡ objects_of l → x ≡ Ok (objects_found (length l) 0) → Answered (list_words x) words r after
       → workAfter ≡ landed (objects_fit s os (length work) (records row)) work (works_of s 0 os)
       → rowAfter ≡ landed (objects_fit s os (length work) (records row)) row (list_row (object_records s 0 os))
       → AnswersList l s work row words r workAfter rowAfter after
@@ -112,7 +111,7 @@ module _ (l : List (ℕ × List ℕ)) (g : Fit l) (work row words : List ℕ) (h
       let ws : List ℕ = list_row (records_built 0 l) in
       let n : length ws ≡ length l * 8 = row_length (records_built 0 l) ∙ ap (λ (m : ℕ). m * 8) (built_count 0 l) in
       let z : 0 + length ws ≡ length l * 8 = omega arith in
-      let b = subst (λ (y : ObjectsFound). Answered (list_words y) words r after) is a in
+      let b = subst (λ (y : Result ObjectsFound Refused). Answered (list_words y) words r after) is a in
       let w = after_is _ words r after refl k b in
       let rw' : rowAfter ≡ ws ++ drop (length l * 8) row =
       er

@@ -1,4 +1,5 @@
 -- Two lists, two byte strings: the walk over what was built, and what equal bytes say of the lists.
+use Rattle.std.specs.Prelude.{Result, Ok, Err}
 use Prim.Native.Nat.{ℕ, ◌+◌, ◌≤◌}
 use native.Mathlib.Omega.{arith}
 use mathlib.Core.Logic.{◌↔◌}
@@ -10,8 +11,6 @@ use lib.ListN.{length, get_or, take, drop, length-append}
 use lib.Seq.{take_at}
 use Rattle.wire.proofs.WireLaws.{picked, pick_yes}
 use Rattle.wire.proofs.Places.{here_next}
-use Rattle.answer.specs.declared.Laid.{Laid}
-use Rattle.answer.specs.declared.Laid.TheVariants.{Bytes, Refused as NotLaid}
 use Rattle.layouts.specs.DdmLayout.{Ddm}
 use Rattle.ddm_length.specs.Lengths.{measured}
 use Rattle.ddm_builder.specs.Built.{built, built_all, Fit}
@@ -23,8 +22,6 @@ use Rattle.ddm_object.specs.ObjectCalls.{end_at, param_step_at}
 use Rattle.ddm_object.proofs.ObjectReads.{made}
 use Rattle.ddm_object.proofs.FindingParams.{step_is, step_end}
 use Rattle.ddm_object.specs.declared.DdmObject.{DdmObject}
-use Rattle.ddm_object.specs.declared.Stepped.{Stepped}
-use Rattle.ddm_object.specs.declared.Stepped.TheVariants.{Param, Refused as NoStep}
 use Rattle.ddm_laws.proofs.LayoutLaws.{built_ddm, ddm_fixes, parse_back}
 use Rattle.ddm_laws.proofs.BuiltLists.{pairs_map, parameters_pairs, joined_injective}
 use Rattle.gateway_words.specs.AnswerWords.{Answered, laid_words}
@@ -38,6 +35,7 @@ use Rattle.demands_ddm.proofs.LayoutRead.{built_record}
 use Rattle.demands_ddm.proofs.Requests.{FilledRequest}
 use Rattle.demands_ddm.proofs.Said.{after_is}
 use Rattle.demands_ddm.proofs.Back.{whole_of}
+use Rattle.answer.specs.declared.Refused.{Refused}
 
 -- ---- the walk
 
@@ -50,10 +48,10 @@ walk_mono g e (given x w) = given (g _ _ _ _ x) (walk_mono g e w)
 
 -- a step over a parameter that was built, with its record
 abbrev Steps : List ℕ → ℕ → ℕ → List ℕ → ℕ → Type 0
-Steps s at cp d next = (param_step_at s at ≡ Param (plain at cp (built_header d) (length d)) next) × (data_of s (plain at cp (built_header d) (length d)) ≡ d)
+Steps s at cp d next = (param_step_at s at ≡ Ok (plain at cp (built_header d) (length d), next)) × (data_of s (plain at cp (built_header d) (length d)) ≡ d)
 
 abbrev Ends : List ℕ → ℕ → Type 0
-Ends s at = param_step_at s at ≡ NoStep (end_at at)
+Ends s at = param_step_at s at ≡ Err (end_at at)
 
 nothing_left : (s : List ℕ) (at : ℕ) → at ≤ length s → drop at s ≡ [] → Ends s at
 unfolding parsed measured
@@ -68,7 +66,7 @@ walk_from s at (x ∷ l) g here e =
     let n : ℕ = length (built cp d) in
     let r = built_record cp d g.0 g.1 s (built_all l) at here in
     let there = ap (λ (b : List ℕ). parsed b at) here ∙ parse_back cp d g.0 g.1 (built_all l) at in
-    given (step_is s at (made cp d n) there ∙ ap (λ (o : DdmObject). Param o (at + n)) r.0, r.1)
+    given (step_is s at (made cp d n) there ∙ ap (λ (o : DdmObject). Ok (o, at + n)) r.0, r.1)
     (walk_from s (at + n) l g.2 (here_next s (built cp d) (built_all l) at (at + n) here refl) (omega (arith, length-append (built cp d) (built_all l))))
 
 -- over all that was built
@@ -90,7 +88,7 @@ two_lists = record {
 module _ (s : List ℕ) (at : ℕ) (words : List ℕ) (r : ℕ) (said : List ℕ) (h : 8 ≤ length words) (a : Answered (step_words (param_step_at s at)) words r said) where
   pub step_said : (cp : ℕ) (d : List ℕ) (next : ℕ) → Steps s at cp d next → AnswersObject cp d s (length (built cp d)) [] words r [] said × (get_or said 1 0 ≡ next)
   step_said cp d next x =
-      let b = subst (λ (y : Stepped). Answered (step_words y) words r said) x.0 a in
+      let b = subst (λ (y : Result (DdmObject × ℕ) Refused). Answered (step_words y) words r said) x.0 a in
       let w = after_is _ words r said refl h b in (
         record {
           done = b.number_is;
@@ -104,7 +102,7 @@ module _ (s : List ℕ) (at : ℕ) (words : List ℕ) (r : ℕ) (said : List ℕ
 
   pub end_said : Ends s at → AnswersNone [] words r [] said × (get_or said 1 0 ≡ at)
   end_said x =
-      let b = subst (λ (y : Stepped). Answered (step_words y) words r said) x a in
+      let b = subst (λ (y : Result (DdmObject × ℕ) Refused). Answered (step_words y) words r said) x a in
       let w = after_is _ words r said refl h b in
       (record { none = b.number_is; number = ap (λ (y : List ℕ). get_or y 0 0) w; behind = ap (drop 8) w; work_is = refl }, ap (λ (y : List ℕ). get_or y 1 0) w)
 
@@ -115,7 +113,7 @@ module _ (cp : ℕ) (l : List (ℕ × List ℕ)) (b : DdmBuilder) (content : Lis
   abbrev bytes : List ℕ
   bytes = builder_object b content
 
-  pub object_laid : (n : ℕ) → Builds b content room (Bytes n) after → take n after ≡ built cp (built_all l)
+  pub object_laid : (n : ℕ) → Builds b content room (Ok n) after → take n after ≡ built cp (built_all l)
   object_laid n p =
       let inside = le-leb b.fill (length content) f.inside in
       picked (leb (length bytes) (length room)) (sym (p.answers ∙ pick_yes _ _ inside))
@@ -129,10 +127,10 @@ module _ (cp : ℕ) (l : List (ℕ × List ℕ)) (b : DdmBuilder) (content : Lis
   pub object_said : (words said : List ℕ) → 8 ≤ length words → Makes b content room words 0 after said → take (get_or said 2 0) after ≡ built cp (built_all l)
   object_said words said h p = go (made_laid b content (length room)) refl p.answers
     where
-      go : (x : Laid) → made_laid b content (length room) ≡ x → Answered (laid_words x) words 0 said → take (get_or said 2 0) after ≡ built cp (built_all l)
-      go (Bytes n) e q =
+      go : (x : Result ℕ Refused) → made_laid b content (length room) ≡ x → Answered (laid_words x) words 0 said → take (get_or said 2 0) after ≡ built cp (built_all l)
+      go (Ok n) e q =
           ap (λ (k : ℕ). take k after) (ap (λ (y : List ℕ). get_or y 2 0) (after_is _ words 0 said refl h q)) ∙ object_laid n (record { answers = sym e; room_is = p.room_is })
-      go (NotLaid r) e q =
+      go (Err r) e q =
           let z = q.number_is in
           absurd (picked (leb (length bytes) (length room)) (sym (pick_yes _ _ (le-leb b.fill (length content) f.inside)) ∙ e)
           (λ t k. let y : ◌≡◌ {A = ℕ} 0 1 = cc in omega arith) (λ t k. let y : ◌≡◌ {A = ℕ} 0 9 = cc in omega arith))

@@ -1,5 +1,6 @@
 -- Lists that meet the premises of W-213's theorems, computed: empty ones, empty data, a list added in two ways, the longest data inline and
 -- the shortest with four length bytes (TwoListsForms has six and eight); and three of which the statement doesn't hold.
+use Rattle.std.specs.Prelude.{Result, Ok, Err}
 use Prim.Native.Nat.{ℕ}
 use native.Mathlib.Omega.{arith}
 use mathlib.Core.Path.{◌≡◌, refl, ap}
@@ -11,8 +12,6 @@ use Rattle.ddm_length.specs.Lengths.{measured, marshaled}
 use Rattle.ddm_builder.specs.Built.{length_bytes, built, built_all, Fit}
 use Rattle.ddm_object.specs.Objects.{Object, parsed, parameters, parameters_fuel}
 use Rattle.ddm_object.specs.ObjectCalls.{end_at, param_step_at}
-use Rattle.ddm_object.specs.declared.Stepped.{Stepped}
-use Rattle.ddm_object.specs.declared.Stepped.TheVariants.{Param, Refused as NoStep}
 use Rattle.ddm_laws.proofs.BuiltLists.{pairs_of}
 use Rattle.gateway_builder.specs.BuilderWords.{builder_of}
 use Rattle.demands_ddm.specs.DdmLayouts.{FitsWidth}
@@ -22,10 +21,12 @@ use Rattle.demands_ddm.specs.Adding.{ByCalls, no_call, call, call_u16, ByWords, 
 use Rattle.demands_ddm.specs.TwoLists.{StepGives, WalkGives, ended, given, TwoLists}
 use Rattle.demands_ddm.proofs.ListsAdded.{lent, lent_room, zeros}
 use Rattle.demands_ddm.proofs.KeptDdmRequests.{equal_data, equal_objects, equal_data_in_words, equal_objects_in_words, walk_gives_back_in_words}
+use Rattle.ddm_object.specs.declared.DdmObject.{DdmObject}
+use Rattle.answer.specs.declared.Refused.{Refused}
 
 -- ---- "Empty lists and empty data are included"
 
-pub none_built : (built_all [] ≡ []) × (param_step_at [] 0 ≡ NoStep (end_at 0))
+pub none_built : (built_all [] ≡ []) × (param_step_at [] 0 ≡ Err (end_at 0))
 unfolding param_step_at parsed measured
 none_built = (refl, refl)
 
@@ -145,7 +146,7 @@ module _ (κ₂ : Lfts 2) where
 pub four : List ℕ
 four = 0x80 ∷ 0x08 ∷ 0x24 ∷ 0x14 ∷ 0 ∷ 0 ∷ 0x7F ∷ 0xFC ∷ replicate 32764 0xC1
 
-pub four_walked : (param_step_at four 0 ≡ Param (plain 0 0x2414 8 32764) 32772) × (param_step_at four 32772 ≡ NoStep (end_at 32772)) × (length four ≡ 32772)
+pub four_walked : (param_step_at four 0 ≡ Ok (plain 0 0x2414 8 32764, 32772)) × (param_step_at four 32772 ≡ Err (end_at 32772)) × (length four ≡ 32772)
 unfolding four param_step_at parsed measured marshaled spelled
 four_walked = (refl, refl, refl)
 
@@ -169,7 +170,7 @@ abbrev bare : List (ℕ × List ℕ) → List ℕ
 bare [] = []
 bare (x ∷ l) = two x.0 ++ (x.1 ++ bare l)
 
-pub bare_not : (list : List ℕ → List Object) (step : List ℕ → ℕ → Stepped) → ¬ TwoLists bare list step
+pub bare_not : (list : List ℕ → List Object) (step : List ℕ → ℕ → Result (DdmObject × ℕ) Refused) → ¬ TwoLists bare list step
 bare_not list step t =
     let e : ◌≡◌ {A = List (ℕ × List ℕ)} ((1, 0 ∷ 1 ∷ []) ∷ []) ((1, []) ∷ (1, []) ∷ []) =
     t.same_list ((1, 0 ∷ 1 ∷ []) ∷ []) ((1, []) ∷ (1, []) ∷ []) (omega arith, omega arith, tt) (omega arith, omega arith, (omega arith, omega arith, tt)) refl in
@@ -184,12 +185,12 @@ stays (ended x) = refl
 abbrev strayed : List (ℕ × List ℕ) → List ℕ
 strayed l = built_all l ++ (0 ∷ [])
 
-pub strayed_not : (list : List ℕ → List Object) (step : List ℕ → ℕ → Stepped) → ¬ TwoLists strayed list step
+pub strayed_not : (list : List ℕ → List Object) (step : List ℕ → ℕ → Result (DdmObject × ℕ) Refused) → ¬ TwoLists strayed list step
 strayed_not list step t = let z : ◌≡◌ {A = ℕ} 0 1 = stays (t.ends_there [] tt) in omega arith
 
 -- a walk that ends where it starts
-abbrev ends_at_once : List ℕ → ℕ → Stepped
-ends_at_once s at = NoStep (end_at at)
+abbrev ends_at_once : List ℕ → ℕ → Result (DdmObject × ℕ) Refused
+ends_at_once s at = Err (end_at at)
 
 pub ends_at_once_not : ¬ TwoLists built_all parameters ends_at_once
 ends_at_once_not t = go (t.ends_there ((0, []) ∷ []) (omega arith, omega arith, tt))
@@ -197,5 +198,5 @@ ends_at_once_not t = go (t.ends_there ((0, []) ∷ []) (omega arith, omega arith
     s : List ℕ
     s = built_all ((0, []) ∷ [])
 
-    go : {at to : ℕ} {x : ℕ × List ℕ} {l : List (ℕ × List ℕ)} → WalkGives (λ at cp d next. StepGives s cp d next (NoStep (end_at at))) (λ at. NoStep (end_at at) ≡ NoStep (end_at at)) at (x ∷ l) to → ⊥
+    go : {at to : ℕ} {x : ℕ × List ℕ} {l : List (ℕ × List ℕ)} → WalkGives (λ at cp d next. StepGives s cp d next (Err (end_at at))) (λ at. Err (end_at at) ≡ Err (end_at at)) at (x ∷ l) to → ⊥
     go (given g w) = let e = g.is in let z : ◌≡◌ {A = ℕ} 0 1 = cc in omega arith

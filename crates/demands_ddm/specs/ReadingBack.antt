@@ -1,24 +1,20 @@
 -- What reading comes to of objects and parameters that were built, or that have the volume's layout: the words of the theorems.
-use Rattle.std.specs.Prelude.{ℕ, ◌+◌, ◌≡◌, false, List, [], ◌∷◌, ◌++◌, length, take, drop}
+use Rattle.std.specs.Prelude.{ℕ, ◌+◌, ◌≡◌, false, List, [], ◌∷◌, ◌++◌, length, take, drop, Result, Ok}
 use Rattle.wire.specs.Bytes.{splice}
-use Rattle.answer.specs.declared.Laid.{Laid}
-use Rattle.answer.specs.declared.Laid.TheVariants.{Bytes}
 use Rattle.layouts.specs.DdmLayout.{Ddm}
 use Rattle.ddm_builder.specs.Built.{length_bytes, built}
 use Rattle.ddm_builder.specs.Builder.{fresh_builder, Adds}
 use Rattle.ddm_builder.specs.declared.DdmBuilder.{DdmBuilder}
-use Rattle.ddm_builder.specs.declared.Added.TheVariants.{Done}
 use Rattle.ddm_object.specs.declared.DdmObject.{DdmObject}
-use Rattle.ddm_object.specs.declared.ObjectFound.{ObjectFound}
-use Rattle.ddm_object.specs.declared.ObjectFound.TheVariants.{Object as Gives}
 use Rattle.ddm_rows.specs.declared.ObjectsFound.{ObjectsFound}
-use Rattle.ddm_rows.specs.declared.ObjectsFound.TheVariants.{Objects}
+use Rattle.answer.specs.declared.Refused.{Refused}
+use Rattle.ddm_rows.specs.ListCalls.{objects_found}
 
 -- ---- what is laid down
 
 -- A call that lays bytes down answers 0 and how many; they are the room's first, and behind them it is as it was.
-pub record LaidFirst (bytes room : List ℕ) (r : Laid) (after : List ℕ) : Type 0 where
-  pub is : r ≡ Bytes (length bytes)
+pub record LaidFirst (bytes room : List ℕ) (r : Result ℕ Refused) (after : List ℕ) : Type 0 where
+  pub is : r ≡ Ok (length bytes)
   pub first : take (length bytes) after ≡ bytes
   pub behind : drop (length bytes) after ≡ drop (length bytes) room
   pub whole : after ≡ bytes ++ drop (length bytes) room
@@ -47,8 +43,8 @@ built_header d = 4 + length_bytes (length d)
 
 -- A call answers the object with that code point and those data, at that place: 0, the record, the data where it says, and the
 -- work area as it was.
-pub record ReadsAs (cp : ℕ) (d s : List ℕ) (place header : ℕ) (work : List ℕ) (r : ObjectFound) (after : List ℕ) : Type 0 where
-  pub is : r ≡ Gives (plain place cp header (length d))
+pub record ReadsAs (cp : ℕ) (d s : List ℕ) (place header : ℕ) (work : List ℕ) (r : Result DdmObject Refused) (after : List ℕ) : Type 0 where
+  pub is : r ≡ Ok (plain place cp header (length d))
   pub data_is : data_of s (plain place cp header (length d)) ≡ d
   pub work_is : after ≡ work
 
@@ -68,8 +64,8 @@ AllSay s (x ∷ l) [] = ⊥
 AllSay s (x ∷ l) (o ∷ os) = (o.code_point ≡ x.0) × (data_of s o ≡ x.1) × AllSay s l os
 
 -- A call answers all of them: 0, how many, no byte of the work area; the records at the row's start, and all else as it was.
-pub record ListsAs (l : List (ℕ × List ℕ)) (s work : List ℕ) (row : List DdmObject) (r : ObjectsFound) (workAfter : List ℕ) (rowAfter : List DdmObject) : Type 0 where
-  pub is : r ≡ Objects (length l) 0
+pub record ListsAs (l : List (ℕ × List ℕ)) (s work : List ℕ) (row : List DdmObject) (r : Result ObjectsFound Refused) (workAfter : List ℕ) (rowAfter : List DdmObject) : Type 0 where
+  pub is : r ≡ Ok (objects_found (length l) 0)
   pub row_is : rowAfter ≡ splice row 0 (records_built 0 l)
   pub say : AllSay s l (records_built 0 l)
   pub work_is : workAfter ≡ work
@@ -94,4 +90,4 @@ pub record First (cp : ℕ) (l : List (ℕ × List ℕ)) : Type 0 where
 pub data Added (cp : ℕ) (room : List ℕ) : List (ℕ × List ℕ) → DdmBuilder → List ℕ → Type 0 where
   none : Added cp room [] (fresh_builder cp) room
   more : {l : List (ℕ × List ℕ)} {b : DdmBuilder} {now : List ℕ} → Added cp room l b now → (c : ℕ) (d : List ℕ) (next : DdmBuilder) (after : List ℕ)
-      → Adds b (built c d) now (Done next) after → Added cp room (l ++ ((c, d) ∷ [])) next after
+      → Adds b (built c d) now (Ok next) after → Added cp room (l ++ ((c, d) ∷ [])) next after

@@ -1,5 +1,5 @@
 -- Reading one frame: document 01, "Reading". The rules are the reader's or salvage's.
-use Rattle.std.specs.Prelude.{ℕ, zero, suc, ◌+◌, ◌-◌, Bool, List, [], ◌∷◌, ◌++◌, ltb, leb, eqb, length}
+use Rattle.std.specs.Prelude.{ℕ, zero, suc, ◌+◌, ◌-◌, Bool, List, [], ◌∷◌, ◌++◌, ltb, leb, eqb, length, Result, Ok, Err}
 use Rattle.answer.specs.Numbers.{number_of}
 use Rattle.answer.specs.Rooms.{out_of_bounds}
 use Rattle.answer.specs.declared.Refusal.TheVariants.{Incomplete, LengthTooShort, DeadContinuation}
@@ -9,8 +9,6 @@ use Rattle.dss_head.specs.Heads.{head_at, type_byte}
 use Rattle.dss_head.specs.declared.DssType.{DssType}
 use Rattle.dss_head.specs.declared.DssType.TheVariants.{Request, Reply, Object, NoReply}
 use Rattle.dss_head.specs.declared.DssHeader.{DssHeader}
-use Rattle.dss_head.specs.declared.HeadFound.{HeadFound}
-use Rattle.dss_head.specs.declared.HeadFound.TheVariants.{Head, Refused as Refuses}
 use Rattle.dss_frame.specs.declared.Rules.{Rules}
 use Rattle.dss_frame.specs.declared.Rules.TheVariants.{Reader, Salvage}
 use Rattle.dss_frame.specs.Segments.{Segment, Walk, whole, short, dead, payload_of, end_of, frame_walk}
@@ -56,9 +54,9 @@ abbrev pub refusal : Rules → Refused → Look
 refusal Reader r = refuses r
 refusal Salvage r = finished
 
-abbrev pub look_at : Rules → List ℕ → DssType → Bool → ℕ → HeadFound → Look
-look_at rules s t extended q (Refuses r) = refusal rules r
-look_at rules s t extended q (Head h) =
+abbrev pub look_at : Rules → List ℕ → DssType → Bool → ℕ → Result DssHeader Refused → Look
+look_at rules s t extended q (Err r) = refusal rules r
+look_at rules s t extended q (Ok h) =
     pick (eqb (be16 s q) 0xFFFF) finished
     (pick h.flags.same_correlation
     (pick (follows t h.dss_type)
@@ -95,9 +93,9 @@ unfoldable pub absorb : Rules → List ℕ → ℕ → DssHeader → List Segmen
 unfolding absorb_fuel
 absorb rules s p h gs = absorb_fuel (length s) rules s p h gs
 
-abbrev pub read_head : Rules → List ℕ → ℕ → List Segment → HeadFound → Read
-read_head rules s p gs (Refuses r) = refused r
-read_head rules s p gs (Head h) =
+abbrev pub read_head : Rules → List ℕ → ℕ → List Segment → Result DssHeader Refused → Read
+read_head rules s p gs (Err r) = refused r
+read_head rules s p gs (Ok h) =
     pick (ltb (be16 s p) 6) (refused (record { why = LengthTooShort (be16 s p); place = p }))
     (pick (eqb (be16 s p) 0xFFFF) (frame (record { head = h; segments = gs })) (absorb rules s p h gs))
 

@@ -1,4 +1,5 @@
 -- The laws of a segment's head. Document 01, module 1.
+use Rattle.std.specs.Prelude.{Result, Ok, Err}
 use Prim.Native.Nat.{ℕ, ◌+◌, ◌*◌, ◌-◌, ◌/◌, ◌%◌, ◌≤◌, ◌<◌}
 use native.Mathlib.Nat.{sub-zero, add-zero, add_assoc}
 use native.Mathlib.Omega.{arith}
@@ -19,10 +20,6 @@ use Rattle.dss_head.specs.declared.DssType.{DssType}
 use Rattle.dss_head.specs.declared.DssType.TheVariants.{Reply}
 use Rattle.dss_head.specs.declared.DssFlags.{DssFlags}
 use Rattle.dss_head.specs.declared.DssHeader.{DssHeader}
-use Rattle.dss_head.specs.declared.TypeFound.{TypeFound}
-use Rattle.dss_head.specs.declared.TypeFound.TheVariants.{Is}
-use Rattle.dss_head.specs.declared.HeadFound.{HeadFound}
-use Rattle.dss_head.specs.declared.HeadFound.TheVariants.{Head, Refused as Refuses}
 use Rattle.dss_head.specs.declared.Chunk.{Chunk}
 use Rattle.dss_head.specs.declared.Chunk.TheVariants.{Dead, Last, Full}
 use Rattle.dss_head.specs.Heads.{length_of, is_full, continuation_length, chunk_of, type_at, type_byte, bit, flags_of, flags_byte, head_with, head_at, head_bytes}
@@ -127,7 +124,7 @@ flags_back f n h =
     }
 
 -- a format byte says the type and the flags that it was made of
-pub format_back : (t : DssType) (f : DssFlags) (place : ℕ) → (type_at (type_byte t + flags_byte f) place ≡ Is t) × (flags_of (type_byte t + flags_byte f) ≡ f)
+pub format_back : (t : DssType) (f : DssFlags) (place : ℕ) → (type_at (type_byte t + flags_byte f) place ≡ Ok t) × (flags_of (type_byte t + flags_byte f) ≡ f)
 format_back t f place = (
   type_back t (type_byte t + flags_byte f) place (omega (arith, type_range t, flags_sixteens f)),
   flags_back f (type_byte t) (omega (arith, type_range t)),
@@ -136,15 +133,15 @@ format_back t f place = (
 -- ---- a head at a place, answer by answer
 
 -- a head that is found isn't refused
-pub found_refused : (h : DssHeader) (r : Refused) → Head h ≡ Refuses r → ⊥
+pub found_refused : (h : DssHeader) (r : Refused) → Ok h ≡ Err r → ⊥
 found_refused h r e = let z : ◌≡◌ {A = ℕ} 0 1 = cc in omega arith
 
 module _ (s : List ℕ) (at : ℕ) where
-  pub head_short : (n : ℕ) → length s - at ≡ n → n < 6 → head_at s at ≡ Refuses (record { why = BufferTooShort 6 n; place = at })
+  pub head_short : (n : ℕ) → length s - at ≡ n → n < 6 → head_at s at ≡ Err (record { why = BufferTooShort 6 n; place = at })
   head_short n e h = rw (e, lt-ltb n 6 h)
 
   module _ (h : 6 ≤ length s - at) where
-    pub head_magic : (get_or s (at + 2) 0 ≡ 0xD0 → ⊥) → head_at s at ≡ Refuses (record { why = InvalidMagic (get_or s (at + 2) 0); place = at })
+    pub head_magic : (get_or s (at + 2) 0 ≡ 0xD0 → ⊥) → head_at s at ≡ Err (record { why = InvalidMagic (get_or s (at + 2) 0); place = at })
     head_magic k = rw (le-ltb (length s - at) 6 h, ne_eqb (get_or s (at + 2) 0) 0xD0 k)
 
     pub head_typed : get_or s (at + 2) 0 ≡ 0xD0 → head_at s at ≡ head_with s at (type_at (get_or s (at + 3) 0) at)
@@ -157,14 +154,14 @@ abbrev pub as_read : DssHeader → DssHeader
 as_read h = record { length = length_of h.length; dss_type = h.dss_type; flags = h.flags; correlation_id = h.correlation_id }
 
 -- every head that was written is read, whatever stands behind it
-pub head_back : (h : DssHeader) (rest : List ℕ) → h.length < 65536 → h.correlation_id < 65536 → head_at (head_bytes h ++ rest) 0 ≡ Head (as_read h)
+pub head_back : (h : DssHeader) (rest : List ℕ) → h.length < 65536 → h.correlation_id < 65536 → head_at (head_bytes h ++ rest) 0 ≡ Ok (as_read h)
 head_back h rest a b =
     let t = h.dss_type in
     let s = head_bytes h ++ rest in
     let e = format_back t h.flags 0 in
     head_typed s 0 (omega arith) refl
     ∙ ap (head_with s 0) e.0
-    ∙ (λ i. Head (record {
+    ∙ (λ i. Ok (record {
       length = length_of (two_back h.length rest a i);
       dss_type = t;
       flags = e.1 i;
@@ -173,7 +170,7 @@ head_back h rest a b =
 
 -- the same of a room that it was laid into
 pub laid_back : (h : DssHeader) (room : List ℕ) → h.length < 65536 → h.correlation_id < 65536 → 6 ≤ length room
-    → head_at (laid room 0 (head_bytes h)) 0 ≡ Head (as_read h)
+    → head_at (laid room 0 (head_bytes h)) 0 ≡ Ok (as_read h)
 laid_back h room a b k =
     ap (λ (s : List ℕ). head_at s 0) (laid_fits room 0 (head_bytes h) k ∙ splice_tail room 0 (head_bytes h) (omega arith)) ∙ head_back h (drop 6 room) a b
 
@@ -186,15 +183,15 @@ full_head n = record {
   correlation_id = 0x1234;
 }
 
-head_back_met : (head_bytes (full_head 0xFFFF) ≡ 0xFF ∷ 0xFF ∷ 0xD0 ∷ 0x72 ∷ 0x12 ∷ 0x34 ∷ []) × (head_at (head_bytes (full_head 0xFFFF) ++ (7 ∷ [])) 0 ≡ Head (full_head 32767))
+head_back_met : (head_bytes (full_head 0xFFFF) ≡ 0xFF ∷ 0xFF ∷ 0xD0 ∷ 0x72 ∷ 0x12 ∷ 0x34 ∷ []) × (head_at (head_bytes (full_head 0xFFFF) ++ (7 ∷ [])) 0 ≡ Ok (full_head 32767))
 head_back_met = (refl, refl)
 
 -- ---- the same head at another place
 
 -- a head found, or its refusal with the place p
-abbrev pub moved_to : ℕ → HeadFound → HeadFound
-moved_to p (Head h) = Head h
-moved_to p (Refuses r) = Refuses (record { why = r.why; place = p })
+abbrev pub moved_to : ℕ → Result DssHeader Refused → Result DssHeader Refused
+moved_to p (Ok h) = Ok h
+moved_to p (Err r) = Err (record { why = r.why; place = p })
 
 be16_drop : (s : List ℕ) (at i : ℕ) → be16 (drop at s) i ≡ be16 s (at + i)
 be16_drop s at i =
@@ -202,7 +199,7 @@ be16_drop s at i =
 
 with_placed : (s : List ℕ) (at b : ℕ) → head_with s at (type_at b at) ≡ moved_to at (head_with (drop at s) 0 (type_at b 0))
 with_placed s at b =
-    type_by (λ (x : TypeFound). head_with s at x ≡ moved_to at (head_with (drop at s) 0 (type_at b 0))) b at
+    type_by (λ (x : Result DssType Refused). head_with s at x ≡ moved_to at (head_with (drop at s) 0 (type_at b 0))) b at
     (λ t e. rw (type_back t b 0 e, be16_drop s at 0, be16_drop s at 4, get_or-drop at s 3 0, add-zero at)) (λ h. rw (type_none b 0 h))
 
 module _ (s : List ℕ) (at : ℕ) where
@@ -216,7 +213,7 @@ module _ (s : List ℕ) (at : ℕ) where
   placed_magic h k =
       let m : get_or (drop at s) 2 0 ≡ get_or s (at + 2) 0 = get_or-drop at s 2 0 in
       head_magic s at h k
-      ∙ ap (λ (b : ℕ). Refuses (record { why = InvalidMagic b; place = at })) (sym m)
+      ∙ ap (λ (b : ℕ). Err (record { why = InvalidMagic b; place = at })) (sym m)
       ∙ ap (moved_to at) (sym (head_magic (drop at s) 0 (omega (arith, placed_length)) (λ e. k (sym m ∙ e))))
 
   placed_typed : 6 ≤ length s - at → get_or s (at + 2) 0 ≡ 0xD0 → head_at s at ≡ moved_to at (head_at (drop at s) 0)

@@ -1,5 +1,6 @@
 -- Any two outcomes that a contract of this crate allows are equal, and a head that was serialized parses to itself. Each
 -- statement names the contract, and doesn't write it again.
+use Rattle.std.specs.Prelude.{Result, Ok}
 use Prim.Native.Nat.{ℕ, ◌≤◌, ◌<◌}
 use mathlib.Core.Path.{◌≡◌, refl, sym, ap, ◌∙◌}
 use mathlib.Core.Bool.{Bool}
@@ -11,15 +12,10 @@ use denote.Ref.{Bor, MutBor, at_last}
 use Rattle.wire.specs.Bytes.{laid}
 use Rattle.wire.proofs.WireLaws.{pick_yes}
 use Rattle.answer.specs.Rooms.{laid_at_start}
-use Rattle.answer.specs.declared.Laid.{Laid}
-use Rattle.answer.specs.declared.Laid.TheVariants.{Bytes}
 use Rattle.dss_head.specs.declared.Chunk.{Chunk}
 use Rattle.dss_head.specs.declared.DssType.{DssType}
 use Rattle.dss_head.specs.declared.DssFlags.{DssFlags}
 use Rattle.dss_head.specs.declared.DssHeader.{DssHeader}
-use Rattle.dss_head.specs.declared.TypeFound.{TypeFound}
-use Rattle.dss_head.specs.declared.HeadFound.{HeadFound}
-use Rattle.dss_head.specs.declared.HeadFound.TheVariants.{Head}
 use Rattle.dss_head.specs.Heads.{head_at, head_bytes}
 use Rattle.dss_head.proofs.HeadLaws.{as_read, laid_back}
 use Rattle.dss_head.proofs.decode_dss_length.Reads as decode_dss_length
@@ -33,6 +29,7 @@ use Rattle.dss_head.proofs.DssFlags.to_byte.Reads as flags_to_byte
 use Rattle.dss_head.proofs.DssFlags.from_byte.Reads as flags_from_byte
 use Rattle.dss_head.proofs.DssHeader.parse.Reads as parse
 use Rattle.dss_head.proofs.DssHeader.serialize.Reads as serialize
+use Rattle.answer.specs.declared.Refused.{Refused}
 
 -- ---- lengths
 
@@ -54,7 +51,7 @@ decide_continuation_one κs raw r r' p q = p ∙ sym q
 
 -- ---- the format byte
 
-pub type_from_byte_one : (κs : Lfts 0) (b : ℕ) (r r' : TypeFound)
+pub type_from_byte_one : (κs : Lfts 0) (b : ℕ) (r r' : Result DssType Refused)
     → type_from_byte.Post κs (b, tt) r (b, tt) → type_from_byte.Post κs (b, tt) r' (b, tt) → r ≡ r'
 type_from_byte_one κs b r r' p q = p ∙ sym q
 
@@ -75,10 +72,10 @@ flags_from_byte_one κs b r r' p q = p ∙ sym q
 
 -- ---- heads
 
-pub parse_one : (κs : Lfts 1) (s : Bor (List ℕ)) (r r' : HeadFound) → parse.Post κs (s, tt) r (s, tt) → parse.Post κs (s, tt) r' (s, tt) → r ≡ r'
+pub parse_one : (κs : Lfts 1) (s : Bor (List ℕ)) (r r' : Result DssHeader Refused) → parse.Post κs (s, tt) r (s, tt) → parse.Post κs (s, tt) r' (s, tt) → r ≡ r'
 parse_one κs s r r' p q = p ∙ sym q
 
-pub serialize_one : (κs : Lfts 1) (h : DssHeader) (room : MutBor (List ℕ)) (r r' : Laid) (l l' : List ℕ)
+pub serialize_one : (κs : Lfts 1) (h : DssHeader) (room : MutBor (List ℕ)) (r r' : Result ℕ Refused) (l l' : List ℕ)
     → serialize.Post κs (h, (room, tt)) r (h, (at_last room l, tt)) → serialize.Post κs (h, (room, tt)) r' (h, (at_last room l', tt))
     → (r ≡ r') × (l ≡ l')
 serialize_one κs h room r r' l l' p q = (p.answers ∙ sym q.answers, p.room_is ∙ sym q.room_is)
@@ -92,10 +89,10 @@ pub serialize_some : (κs : Lfts 1) (h : DssHeader) (room : MutBor (List ℕ))
 serialize_some κs h room = record { answers = refl; room_is = refl }
 
 -- whatever serialize answers and leaves in a room of six bytes or more, and whatever parse then answers of that room
-pub parse_back : (κs κs' : Lfts 1) (h : DssHeader) (room : MutBor (List ℕ)) (run : Bor (List ℕ)) (r : Laid) (l : List ℕ) (found : HeadFound)
+pub parse_back : (κs κs' : Lfts 1) (h : DssHeader) (room : MutBor (List ℕ)) (run : Bor (List ℕ)) (r : Result ℕ Refused) (l : List ℕ) (found : Result DssHeader Refused)
     → h.length < 65536 → h.correlation_id < 65536 → 6 ≤ length room.now
     → serialize.Post κs (h, (room, tt)) r (h, (at_last room l, tt)) → run.now ≡ l → parse.Post κs' (run, tt) found (run, tt)
-    → (r ≡ Bytes 6) × (found ≡ Head (as_read h))
+    → (r ≡ Ok 6) × (found ≡ Ok (as_read h))
 parse_back κs κs' h room run r l found a b k p e q = (
   p.answers ∙ pick_yes _ _ (le-leb 6 (length room.now) k),
   q ∙ ap (λ (s : List ℕ). head_at s 0) (e ∙ p.room_is) ∙ laid_back h room.now a b k,

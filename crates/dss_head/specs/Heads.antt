@@ -1,17 +1,14 @@
 -- Document 01, module 1, "Lengths and flags": lengths, the format byte, heads, over a list of bytes.
-use Rattle.std.specs.Prelude.{ℕ, ◌+◌, ◌-◌, ◌/◌, ◌%◌, Bool, false, List, ◌∷◌, ◌++◌, ltb, eqb, length, get_or}
+use Rattle.std.specs.Prelude.{ℕ, ◌+◌, ◌-◌, ◌/◌, ◌%◌, Bool, false, List, ◌∷◌, ◌++◌, ltb, eqb, length, get_or, Result, Ok, Err}
 use Rattle.wire.specs.Bytes.{pick, or, be16, two}
 use Rattle.answer.specs.declared.Refusal.TheVariants.{InvalidMagic, InvalidDssType, BufferTooShort}
 use Rattle.dss_head.specs.declared.DssType.{DssType}
 use Rattle.dss_head.specs.declared.DssType.TheVariants.{Request, Reply, Object, Communication, NoReply}
 use Rattle.dss_head.specs.declared.DssFlags.{DssFlags}
 use Rattle.dss_head.specs.declared.DssHeader.{DssHeader}
-use Rattle.dss_head.specs.declared.TypeFound.{TypeFound}
-use Rattle.dss_head.specs.declared.TypeFound.TheVariants.{Is, Refused as NoType}
-use Rattle.dss_head.specs.declared.HeadFound.{HeadFound}
-use Rattle.dss_head.specs.declared.HeadFound.TheVariants.{Head, Refused as Refuses}
 use Rattle.dss_head.specs.declared.Chunk.{Chunk}
 use Rattle.dss_head.specs.declared.Chunk.TheVariants.{Dead, Last, Full}
+use Rattle.answer.specs.declared.Refused.{Refused}
 
 -- ---- lengths
 
@@ -39,14 +36,14 @@ chunk_of raw =
 
 -- "low four bits the type (1 request, 2 reply, 3 object, 4 communication)"; W-210: "the no-reply request DSS, type 5 of DRDA
 -- volume 3. The type reading accepts 1 to 5". 3 is any other, "the low four bits"
-abbrev pub type_at : ℕ → ℕ → TypeFound
+abbrev pub type_at : ℕ → ℕ → Result DssType Refused
 type_at format place =
-    pick (eqb (format % 16) 1) (Is Request)
-    (pick (eqb (format % 16) 2) (Is Reply)
-    (pick (eqb (format % 16) 3) (Is Object)
-    (pick (eqb (format % 16) 4) (Is Communication)
-    (pick (eqb (format % 16) 5) (Is NoReply)
-    (NoType (record { why = InvalidDssType (format % 16); place = place }))))))
+    pick (eqb (format % 16) 1) (Ok Request)
+    (pick (eqb (format % 16) 2) (Ok Reply)
+    (pick (eqb (format % 16) 3) (Ok Object)
+    (pick (eqb (format % 16) 4) (Ok Communication)
+    (pick (eqb (format % 16) 5) (Ok NoReply)
+    (Err (record { why = InvalidDssType (format % 16); place = place }))))))
 
 abbrev pub type_byte : DssType → ℕ
 type_byte Request = 1
@@ -72,17 +69,17 @@ no_flags = record { chained = false; continue_on_error = false; same_correlation
 -- ---- heads
 
 -- the head that a type makes of the six bytes at a place
-abbrev pub head_with : List ℕ → ℕ → TypeFound → HeadFound
-head_with s at (Is t) =
-    Head (record { length = length_of (be16 s at); dss_type = t; flags = flags_of (get_or s (at + 3) 0); correlation_id = be16 s (at + 4) })
-head_with s at (NoType r) = Refuses r
+abbrev pub head_with : List ℕ → ℕ → Result DssType Refused → Result DssHeader Refused
+head_with s at (Ok t) =
+    Ok (record { length = length_of (be16 s at); dss_type = t; flags = flags_of (get_or s (at + 3) 0); correlation_id = be16 s (at + 4) })
+head_with s at (Err r) = Err r
 
 -- "Parsing a head checks 4 (six bytes), 2, 3"
-abbrev pub head_at : List ℕ → ℕ → HeadFound
+abbrev pub head_at : List ℕ → ℕ → Result DssHeader Refused
 head_at s at =
-    pick (ltb (length s - at) 6) (Refuses (record { why = BufferTooShort 6 (length s - at); place = at }))
+    pick (ltb (length s - at) 6) (Err (record { why = BufferTooShort 6 (length s - at); place = at }))
     (pick (eqb (get_or s (at + 2) 0) 0xD0) (head_with s at (type_at (get_or s (at + 3) 0) at))
-    (Refuses (record { why = InvalidMagic (get_or s (at + 2) 0); place = at })))
+    (Err (record { why = InvalidMagic (get_or s (at + 2) 0); place = at })))
 
 -- "Writing a head lays down its length as given"
 abbrev pub head_bytes : DssHeader → List ℕ

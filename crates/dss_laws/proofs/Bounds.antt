@@ -1,4 +1,5 @@
 -- A frame that is read takes six bytes at least and ends inside the run: what a salvage reading's count and cover rest on.
+use Rattle.std.specs.Prelude.{Result, Ok, Err}
 use Prim.Native.Nat.{ℕ, zero, suc, ◌+◌, ◌-◌, ◌≤◌}
 use native.Mathlib.Omega.{arith}
 use mathlib.Core.Bool.{Bool}
@@ -11,8 +12,6 @@ use Rattle.wire.proofs.WireLaws.{pick_by}
 use Rattle.answer.specs.declared.Refused.{Refused}
 use Rattle.dss_head.specs.Heads.{head_at}
 use Rattle.dss_head.specs.declared.DssHeader.{DssHeader}
-use Rattle.dss_head.specs.declared.HeadFound.{HeadFound}
-use Rattle.dss_head.specs.declared.HeadFound.TheVariants.{Head, Refused as Refuses}
 use Rattle.dss_frame.specs.declared.Rules.{Rules}
 use Rattle.dss_frame.specs.Segments.{Segment, Walk, whole, short, dead, behind, continuation, first, continuations, frame_walk, payload_of, end_of}
 use Rattle.dss_frame.specs.Reading.{Look, look, Read, frame, refused, Frame, with_chained, behind_frame, absorb, absorb_fuel, read_head, read_walk, read_at, starts_extended}
@@ -90,10 +89,10 @@ absorb_past (suc k) rules s p q h gs l =
     by_look l₁ (takes g c t) go = go g c t
     by_look l₁ (stops r) go = is_refused r
 
-head_past : (rules : Rules) (s : List ℕ) (p : ℕ) (gs : List Segment) (h : HeadFound) → Six s p gs → OfFrame (Past s p (p + 6)) (read_head rules s p gs h)
+head_past : (rules : Rules) (s : List ℕ) (p : ℕ) (gs : List Segment) (h : Result DssHeader Refused) → Six s p gs → OfFrame (Past s p (p + 6)) (read_head rules s p gs h)
 unfolding absorb
-head_past rules s p gs (Refuses r) k = is_refused r
-head_past rules s p gs (Head h) k =
+head_past rules s p gs (Err r) k = is_refused r
+head_past rules s p gs (Ok h) k =
     pick_by (OfFrame (Past s p (p + 6))) (ltb (be16 s p) 6) _ _ (λ e. is_refused _)
     (λ e. pick_by (OfFrame (Past s p (p + 6))) (eqb (be16 s p) 65535) _ _ (λ e₁. is_frame _ (k.0 (ltb-false _ _ e), k.1))
     (λ e₁. absorb_past (length s) rules s p (p + 6) h gs (k.0 (ltb-false _ _ e), k.1)))

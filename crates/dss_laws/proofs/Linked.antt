@@ -1,4 +1,5 @@
 -- The segments of a frame that is read follow each other from its first byte to its end, so that its payload comes from there.
+use Rattle.std.specs.Prelude.{Result, Ok, Err}
 use Prim.Native.Nat.{ℕ, zero, suc, ◌+◌, ◌-◌, ◌≤◌}
 use native.Mathlib.Omega.{arith}
 use mathlib.Core.Path.{◌≡◌, refl, sym, subst, ◌∙◌}
@@ -14,8 +15,6 @@ use Rattle.answer.specs.declared.Refused.{Refused}
 use Rattle.dss_head.specs.Heads.{head_at}
 use Rattle.dss_head.specs.declared.DssType.{DssType}
 use Rattle.dss_head.specs.declared.DssHeader.{DssHeader}
-use Rattle.dss_head.specs.declared.HeadFound.{HeadFound}
-use Rattle.dss_head.specs.declared.HeadFound.TheVariants.{Head, Refused as Refuses}
 use Rattle.dss_frame.specs.declared.Rules.{Rules}
 use Rattle.dss_frame.specs.declared.Rules.TheVariants.{Reader, Salvage}
 use Rattle.dss_frame.specs.Segments.{Segment, segment_bytes, Walk, whole, behind, continuation, first, continuations, frame_walk, payload_of, end_of}
@@ -91,9 +90,9 @@ starts_refusal : (rules : Rules) (q : ℕ) (r : Refused) → Starts q (refusal r
 starts_refusal Reader q r = tt
 starts_refusal Salvage q r = tt
 
-starts_at : (rules : Rules) (s : List ℕ) (t : DssType) (extended : Bool) (q : ℕ) (h : HeadFound) → Starts q (look_at rules s t extended q h)
-starts_at rules s t extended q (Refuses r) = starts_refusal rules q r
-starts_at rules s t extended q (Head h) =
+starts_at : (rules : Rules) (s : List ℕ) (t : DssType) (extended : Bool) (q : ℕ) (h : Result DssHeader Refused) → Starts q (look_at rules s t extended q h)
+starts_at rules s t extended q (Err r) = starts_refusal rules q r
+starts_at rules s t extended q (Ok h) =
     pick_by (Starts q) (eqb (be16 s q) 65535) _ _ (λ e. tt)
     (λ e. pick_by (Starts q) h.flags.same_correlation _ _
     (λ e₁. pick_by (Starts q) (follows t h.dss_type) _ _
@@ -127,10 +126,10 @@ absorb_linked (suc k) rules s p h gs l =
     by_look l₁ (takes g c t) e go = go g c e (omega arith)
     by_look l₁ (stops r) e go = is_refused r
 
-head_linked : (rules : Rules) (s : List ℕ) (p : ℕ) (gs : List Segment) (h : HeadFound) → Linked p gs → OfFrame (LinkedFrame p) (read_head rules s p gs h)
+head_linked : (rules : Rules) (s : List ℕ) (p : ℕ) (gs : List Segment) (h : Result DssHeader Refused) → Linked p gs → OfFrame (LinkedFrame p) (read_head rules s p gs h)
 unfolding absorb
-head_linked rules s p gs (Refuses r) k = is_refused r
-head_linked rules s p gs (Head h) k =
+head_linked rules s p gs (Err r) k = is_refused r
+head_linked rules s p gs (Ok h) k =
     pick_by (OfFrame (LinkedFrame p)) (ltb (be16 s p) 6) _ _ (λ e. is_refused _)
     (λ e. pick_by (OfFrame (LinkedFrame p)) (eqb (be16 s p) 65535) _ _ (λ e₁. is_frame _ k) (λ e₁. absorb_linked (length s) rules s p h gs k))
 

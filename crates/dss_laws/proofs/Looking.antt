@@ -1,4 +1,5 @@
 -- The equations of `absorb`, with the count gone.
+use Rattle.std.specs.Prelude.{Result, Ok, Err}
 use Prim.Native.Nat.{ℕ, zero, suc, ◌+◌, ◌-◌, ◌≤◌, ◌<◌}
 use native.Mathlib.Omega.{arith}
 use mathlib.Core.Path.{◌≡◌, refl, sym, ap, ◌∙◌}
@@ -12,8 +13,6 @@ use Rattle.answer.specs.declared.Refused.{Refused}
 use Rattle.dss_head.specs.Heads.{head_at}
 use Rattle.dss_head.specs.declared.DssType.{DssType}
 use Rattle.dss_head.specs.declared.DssHeader.{DssHeader}
-use Rattle.dss_head.specs.declared.HeadFound.{HeadFound}
-use Rattle.dss_head.specs.declared.HeadFound.TheVariants.{Head, Refused as Refuses}
 use Rattle.dss_frame.specs.declared.Rules.{Rules}
 use Rattle.dss_frame.specs.declared.Rules.TheVariants.{Reader, Salvage}
 use Rattle.dss_frame.specs.Segments.{Segment, payload_of, end_of}
@@ -39,9 +38,9 @@ sound_refusal Salvage s q r = finishes
 taken : (s : List ℕ) (q d : ℕ) → 6 ≤ length s - q → be16 s q ≤ length s - q → 6 ≤ be16 s q → TakenLook s q (record { at = q; framing = 6; dropped = d; end = q + be16 s q })
 taken s q d l a b = record { six = omega arith; there = omega arith }
 
-sound_at : (rules : Rules) (s : List ℕ) (t : DssType) (extended : Bool) (q : ℕ) (h : HeadFound) → 6 ≤ length s - q → SoundLook s q (look_at rules s t extended q h)
-sound_at rules s t extended q (Refuses r) l = sound_refusal rules s q r
-sound_at rules s t extended q (Head h) l =
+sound_at : (rules : Rules) (s : List ℕ) (t : DssType) (extended : Bool) (q : ℕ) (h : Result DssHeader Refused) → 6 ≤ length s - q → SoundLook s q (look_at rules s t extended q h)
+sound_at rules s t extended q (Err r) l = sound_refusal rules s q r
+sound_at rules s t extended q (Ok h) l =
     pick_by (SoundLook s q) (eqb (be16 s q) 65535) _ _ (λ e. finishes)
     (λ e. pick_by (SoundLook s q) h.flags.same_correlation _ _
     (λ e₁. pick_by (SoundLook s q) (follows t h.dss_type) _ _

@@ -1,4 +1,5 @@
 -- The laws of a frame while it absorbs: what its state in code is of, and what each look makes of it.
+use Rattle.std.specs.Prelude.{Result, Ok, Err}
 use Prim.Native.Nat.{ℕ, ◌+◌, ◌-◌, ◌≤◌}
 use native.Mathlib.Nat.{add-zero}
 use native.Mathlib.Omega.{arith}
@@ -14,8 +15,6 @@ use Rattle.answer.specs.declared.Refused.{Refused}
 use Rattle.dss_head.specs.Heads.{head_at}
 use Rattle.dss_head.specs.declared.DssType.{DssType}
 use Rattle.dss_head.specs.declared.DssHeader.{DssHeader}
-use Rattle.dss_head.specs.declared.HeadFound.{HeadFound}
-use Rattle.dss_head.specs.declared.HeadFound.TheVariants.{Head, Refused as NoHead}
 use Rattle.dss_frame.specs.declared.Rules.{Rules}
 use Rattle.dss_frame.specs.declared.Rules.TheVariants.{Reader, Salvage}
 use Rattle.dss_frame.specs.Segments.{Segment, first, payload_of, end_of}
@@ -23,7 +22,6 @@ use Rattle.dss_frame.specs.Reading.{Look, finished, absorbs, refuses, refusal, l
 use Rattle.dss_laws.proofs.Ends.{end_snoc, payload_one, payload_snoc}
 use Rattle.dss_laws.proofs.Looking.{absorb_finished, absorb_absorbs, absorb_refuses}
 use Rattle.dss_measure.specs.declared.Look.TheVariants.{Finished, Absorbs, Refuses}
-use Rattle.dss_measure.specs.declared.Measured.TheVariants.{Frame as Gives, Refused as NotMeasured}
 use Rattle.dss_measure.specs.declared.PayloadSoFar.{PayloadSoFar}
 use Rattle.dss_measure.specs.inner.Walking.{looked_of, payload_so_far, extended_by}
 use Rattle.dss_measure.specs.Measure.{measured_of}
@@ -51,9 +49,9 @@ dropped_room s extended q h =
     omega (arith, leb-true 8 (be16 s q) (and_split (leb 8 (be16 s q)) (marker (be16 s (q + 6))) e).0))
     (λ t. omega arith)
 
-shape_at : (rules : Rules) (s : List ℕ) (t : DssType) (extended : Bool) (q : ℕ) (f : HeadFound) → 6 ≤ length s - q → Shape s q (look_at rules s t extended q f)
-shape_at rules s t extended q (NoHead r) l = shape_refusal rules s q r
-shape_at rules s t extended q (Head h) l =
+shape_at : (rules : Rules) (s : List ℕ) (t : DssType) (extended : Bool) (q : ℕ) (f : Result DssHeader Refused) → 6 ≤ length s - q → Shape s q (look_at rules s t extended q f)
+shape_at rules s t extended q (Err r) l = shape_refusal rules s q r
+shape_at rules s t extended q (Ok h) l =
     pick_by (Shape s q) (eqb (be16 s q) 65535) _ _ (λ e. finishes)
     (λ e. pick_by (Shape s q) h.flags.same_correlation _ _
     (λ e₁. pick_by (Shape s q) (follows t h.dss_type) _ _
@@ -129,13 +127,13 @@ module _ (rules : Rules) (s : List ℕ) (p : ℕ) (read : Read) (h : DssHeader) 
 
   -- finished: the state is the measure
   pub absorbing_finished : looked_of (look rules s h.dss_type x e) ≡ Finished
-      → measured_of s p read ≡ Gives (record { header = h; payload_len = v.len; segments = k; end = e })
+      → measured_of s p read ≡ Ok (record { header = h; payload_len = v.len; segments = k; end = e })
   absorbing_finished l =
       ap (measured_of s p) (w.same ∙ absorb_finished rules s p h w.segments (looks ∙ is_finished _ l))
-      ∙ sym (λ i. Gives (record { header = h; payload_len = (w.holds i).len; segments = w.counted i; end = w.ends i }))
+      ∙ sym (λ i. Ok (record { header = h; payload_len = (w.holds i).len; segments = w.counted i; end = w.ends i }))
 
   -- refused
-  pub absorbing_refused : (r : Refused) → looked_of (look rules s h.dss_type x e) ≡ Refuses r → measured_of s p read ≡ NotMeasured r
+  pub absorbing_refused : (r : Refused) → looked_of (look rules s h.dss_type x e) ≡ Refuses r → measured_of s p read ≡ Err r
   absorbing_refused r l = ap (measured_of s p) (w.same ∙ absorb_refuses rules s p h w.segments r (looks ∙ is_refused _ r l))
 
   -- absorbed: where that segment lies

@@ -1,4 +1,5 @@
 -- What measuring answers in cases of document 01: the definitions that the contracts cite aren't empty.
+use Rattle.std.specs.Prelude.{Result, Ok, Err}
 use Prim.Native.Nat.{ℕ}
 use native.Mathlib.Omega.{arith}
 use mathlib.Core.Path.{◌≡◌, refl}
@@ -9,20 +10,20 @@ use Rattle.answer.specs.declared.Refusal.TheVariants.{Incomplete, InvalidMagic, 
 use Rattle.dss_head.specs.declared.DssType.{DssType}
 use Rattle.dss_head.specs.declared.DssType.TheVariants.{Reply, Object}
 use Rattle.dss_frame.specs.declared.Rules.TheVariants.{Reader, Salvage}
-use Rattle.dss_measure.specs.declared.Measured.{Measured}
-use Rattle.dss_measure.specs.declared.Measured.TheVariants.{Frame, Refused}
-use Rattle.dss_measure.specs.declared.Extent.TheVariants.{Frame as Spans, Refused as NoExtent}
 use Rattle.dss_measure.specs.Measure.{measured_at, extent_of}
 use Rattle.dss_measure.proofs.GlanceLaws.{headed, apart_nothing, apart_clear}
 use Rattle.dss_measure.specs.inner.Glancing.{Lone}
+use Rattle.dss_measure.specs.declared.FrameMeasure.{FrameMeasure}
+use Rattle.answer.specs.declared.Refused.{Refused}
+use Rattle.dss_measure.specs.Measure.{extent}
 
 -- a measure: the head's length, type, chained and same-correlation flags and correlation; payload length, segments, end
-frame : ℕ → DssType → Bool → ℕ → ℕ → ℕ → ℕ → Measured
+frame : ℕ → DssType → Bool → ℕ → ℕ → ℕ → ℕ → Result FrameMeasure Refused
 frame l t c id n k e =
-    Frame (record { header = record { length = l; dss_type = t; flags = record { chained = c; continue_on_error = false; same_correlation = false }; correlation_id = id }; payload_len = n; segments = k; end = e })
+    Ok (record { header = record { length = l; dss_type = t; flags = record { chained = c; continue_on_error = false; same_correlation = false }; correlation_id = id }; payload_len = n; segments = k; end = e })
 
-refuses : Refusal → ℕ → Measured
-refuses why place = Refused (record { why = why; place = place })
+refuses : Refusal → ℕ → Result FrameMeasure Refused
+refuses why place = Err (record { why = why; place = place })
 
 p2 : List ℕ
 p2 = 0x00 ∷ 0x06 ∷ 0xD0 ∷ 0x02 ∷ 0x00 ∷ 0x07 ∷ []
@@ -107,6 +108,6 @@ before_another =
       apart = apart_clear (p2 ++ p2) 6 (headed (p2 ++ p2) 6 (omega arith) refl (omega arith) (omega arith)) refl;
     }
 
-extents : (extent_of (measured_at Reader p9 0) ≡ Spans 2 14) × (extent_of (measured_at Reader five 0) ≡ NoExtent (record { why = LengthTooShort 5; place = 6 }))
+extents : (extent_of (measured_at Reader p9 0) ≡ Ok (extent 2 14)) × (extent_of (measured_at Reader five 0) ≡ Err (record { why = LengthTooShort 5; place = 6 }))
 unfolding measured_at p2 p9 five
 extents = (refl, refl)

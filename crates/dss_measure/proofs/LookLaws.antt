@@ -1,4 +1,5 @@
 -- The laws of a look at what follows a frame, one for each answer.
+use Rattle.std.specs.Prelude.{Result, Ok}
 use Prim.Native.Nat.{ℕ, ◌+◌, ◌-◌, ◌≤◌, ◌<◌}
 use native.Mathlib.Omega.{arith}
 use mathlib.Core.Path.{◌≡◌, sym, ap, ◌∙◌}
@@ -14,10 +15,9 @@ use Rattle.dss_head.specs.Heads.{head_at, type_byte}
 use Rattle.dss_head.specs.declared.DssType.{DssType}
 use Rattle.dss_head.specs.declared.DssType.TheVariants.{Object}
 use Rattle.dss_head.specs.declared.DssHeader.{DssHeader}
-use Rattle.dss_head.specs.declared.HeadFound.{HeadFound}
-use Rattle.dss_head.specs.declared.HeadFound.TheVariants.{Head}
 use Rattle.dss_frame.specs.declared.Rules.{Rules}
 use Rattle.dss_frame.specs.Reading.{finished, absorbs, look, look_at, refusal, follows, own_object, dropped_at}
+use Rattle.answer.specs.declared.Refused.{Refused}
 
 -- ---- which types follow
 
@@ -65,7 +65,7 @@ module _ (s : List ℕ) (extended : Bool) (q : ℕ) where
 
 module _ (rules : Rules) (s : List ℕ) (t : DssType) (extended : Bool) (q : ℕ) (h : DssHeader) (raw : ℕ) (e : raw ≡ be16 s q) where
   -- "Raw 0xFFFF"
-  pub looks_several : raw ≡ 65535 → look_at rules s t extended q (Head h) ≡ finished
+  pub looks_several : raw ≡ 65535 → look_at rules s t extended q (Ok h) ≡ finished
   looks_several k = pick_yes _ _ (eq-eqb (be16 s q) 65535 (sym e ∙ k))
 
   module _ (k : raw ≡ 65535 → ⊥) where
@@ -73,17 +73,17 @@ module _ (rules : Rules) (s : List ℕ) (t : DssType) (extended : Bool) (q : ℕ
     one = ne_eqb (be16 s q) 65535 (λ l. k (e ∙ l))
 
     -- "or same correlation clear: finished"
-    pub looks_other : h.flags.same_correlation ≡ false → look_at rules s t extended q (Head h) ≡ finished
+    pub looks_other : h.flags.same_correlation ≡ false → look_at rules s t extended q (Ok h) ≡ finished
     looks_other c = pick_no _ _ one ∙ pick_no _ _ c
 
     module _ (c : h.flags.same_correlation ≡ true) where
       -- "Finished unless the type equals the first frame's, or is object after a first reply or request"
-      pub looks_type : follows t h.dss_type ≡ false → look_at rules s t extended q (Head h) ≡ finished
+      pub looks_type : follows t h.dss_type ≡ false → look_at rules s t extended q (Ok h) ≡ finished
       looks_type f = pick_no _ _ one ∙ pick_yes _ _ c ∙ pick_no _ _ f
 
       module _ (f : follows t h.dss_type ≡ true) where
         -- "Length beyond the run: finished"
-        pub looks_beyond : length s - q < raw → look_at rules s t extended q (Head h) ≡ finished
+        pub looks_beyond : length s - q < raw → look_at rules s t extended q (Ok h) ≡ finished
         looks_beyond l =
             pick_no _ _ one ∙ pick_yes _ _ c ∙ pick_yes _ _ f ∙ pick_no _ _ (lt-leb (be16 s q) (length s - q) (omega arith))
 
@@ -96,7 +96,7 @@ pub record Comes (s : List ℕ) (t : DssType) (q : ℕ) (h : DssHeader) (raw : �
   pub there : raw ≤ length s - q
 
 module _ (rules : Rules) (s : List ℕ) (t : DssType) (extended : Bool) (q : ℕ) (h : DssHeader) (raw : ℕ) (w : Comes s t q h raw) where
-  comes : look_at rules s t extended q (Head h)
+  comes : look_at rules s t extended q (Ok h)
       ≡ pick (ltb raw 6) (refusal rules (record { why = LengthTooShort raw; place = q }))
       (pick (own_object s q) finished
       (absorbs (record { at = q; framing = 6; dropped = dropped_at s extended q; end = q + raw }) h.flags.chained))
@@ -110,16 +110,16 @@ module _ (rules : Rules) (s : List ℕ) (t : DssType) (extended : Bool) (q : ℕ
       (absorbs (record { at = q; framing = 6; dropped = dropped_at s extended q; end = q + n }) h.flags.chained))) (sym w.raw_is)
 
   -- "Length 0 to 5: refusal 7, position at that head"
-  pub looks_short : raw < 6 → look_at rules s t extended q (Head h) ≡ refusal rules (record { why = LengthTooShort raw; place = q })
+  pub looks_short : raw < 6 → look_at rules s t extended q (Ok h) ≡ refusal rules (record { why = LengthTooShort raw; place = q })
   looks_short m = comes ∙ pick_yes _ _ (lt-ltb raw 6 m)
 
   -- "finished, it is an object of its own"
-  pub looks_own : 6 ≤ raw → own_object s q ≡ true → look_at rules s t extended q (Head h) ≡ finished
+  pub looks_own : 6 ≤ raw → own_object s q ≡ true → look_at rules s t extended q (Ok h) ≡ finished
   looks_own m o = comes ∙ pick_no _ _ (le-ltb raw 6 m) ∙ pick_yes _ _ o
 
   -- "Else absorb it"
   pub looks_absorbs : (d : ℕ) → d ≡ dropped_at s extended q → 6 ≤ raw → own_object s q ≡ false
-      → look_at rules s t extended q (Head h) ≡ absorbs (record { at = q; framing = 6; dropped = d; end = q + raw }) h.flags.chained
+      → look_at rules s t extended q (Ok h) ≡ absorbs (record { at = q; framing = 6; dropped = d; end = q + raw }) h.flags.chained
   looks_absorbs d z m o =
       comes ∙ pick_no _ _ (le-ltb raw 6 m) ∙ pick_no _ _ o
       ∙ ap (λ (x : ℕ). absorbs (record { at = q; framing = 6; dropped = x; end = q + raw }) h.flags.chained) (sym z)
@@ -127,7 +127,7 @@ module _ (rules : Rules) (s : List ℕ) (t : DssType) (extended : Bool) (q : ℕ
 -- ---- a look
 
 -- "Fewer than six bytes left: finished"; else the head there decides
-pub look_head : (rules : Rules) (s : List ℕ) (t : DssType) (extended : Bool) (q : ℕ) (f : HeadFound) → 6 ≤ length s - q → f ≡ head_at s q
+pub look_head : (rules : Rules) (s : List ℕ) (t : DssType) (extended : Bool) (q : ℕ) (f : Result DssHeader Refused) → 6 ≤ length s - q → f ≡ head_at s q
     → look rules s t extended q ≡ look_at rules s t extended q f
 unfolding look
 look_head rules s t extended q f h e = pick_no _ _ (le-ltb (length s - q) 6 h) ∙ ap (look_at rules s t extended q) (sym e)

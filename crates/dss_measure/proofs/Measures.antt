@@ -1,4 +1,5 @@
 -- What a measure says of the reading that it is of: the frame, where it ends, and how long its payload can be.
+use Rattle.std.specs.Prelude.{Ok, Err}
 use Prim.Native.Nat.{ℕ, ◌+◌, ◌≤◌}
 use native.Mathlib.Omega.{arith}
 use mathlib.Core.Path.{◌≡◌, refl, ap}
@@ -9,7 +10,6 @@ use Rattle.dss_frame.specs.Reading.{Frame, Read, frame, refused, read_at}
 use Rattle.dss_frame.specs.declared.Rules.{Rules}
 use Rattle.dss_laws.proofs.Bounds.{OfFrame, is_frame, is_refused, Past, read_past}
 use Rattle.dss_measure.specs.declared.FrameMeasure.{FrameMeasure}
-use Rattle.dss_measure.specs.declared.Measured.TheVariants.{Frame as Gives, Refused as NotMeasured}
 use Rattle.dss_measure.specs.Measure.{measure_of, measured_of, measured_at}
 use Rattle.dss_laws.proofs.Thin.{Thin, read_thin}
 
@@ -23,11 +23,11 @@ pub record Measures (rules : Rules) (s : List ℕ) (p : ℕ) (m : FrameMeasure) 
   pub thin : p + m.payload_len ≤ m.end
 
 module _ (rules : Rules) (s : List ℕ) (p : ℕ) where
-  pub measures : (m : FrameMeasure) → measured_at rules s p ≡ Gives m → Measures rules s p m
+  pub measures : (m : FrameMeasure) → measured_at rules s p ≡ Ok m → Measures rules s p m
   unfolding measured_at
   measures m e = of_read (read_at rules s p) refl (read_past rules s p) (read_thin rules s p) e
     where
-      of_read : (r : Read) → read_at rules s p ≡ r → OfFrame (Past s p (p + 6)) r → OfFrame (λ (f : Frame). Thin s p f.segments) r → measured_of s p r ≡ Gives m → Measures rules s p m
+      of_read : (r : Read) → read_at rules s p ≡ r → OfFrame (Past s p (p + 6)) r → OfFrame (λ (f : Frame). Thin s p f.segments) r → measured_of s p r ≡ Ok m → Measures rules s p m
       of_read r i (is_frame f a) (is_frame f₁ b) k =
           let same : measure_of s p f ≡ m = cc in
           let end : (measure_of s p f).end ≡ m.end = ap (λ (x : FrameMeasure). x.end) same in
@@ -35,10 +35,10 @@ module _ (rules : Rules) (s : List ℕ) (p : ℕ) where
           record { whole = f; reads = i; same = same; past = omega arith; there = omega arith; thin = omega arith }
       of_read r i (is_refused x) b k = let z : ◌≡◌ {A = ℕ} 0 1 = cc in absurd (omega arith)
 
-  pub measured_not : (x : Refused) → measured_at rules s p ≡ NotMeasured x → read_at rules s p ≡ refused x
+  pub measured_not : (x : Refused) → measured_at rules s p ≡ Err x → read_at rules s p ≡ refused x
   unfolding measured_at
   measured_not x e = of_read (read_at rules s p) e
     where
-      of_read : (r : Read) → measured_of s p r ≡ NotMeasured x → r ≡ refused x
+      of_read : (r : Read) → measured_of s p r ≡ Err x → r ≡ refused x
       of_read (frame f) k = let z : ◌≡◌ {A = ℕ} 0 1 = cc in absurd (omega arith)
       of_read (refused y) k = cc

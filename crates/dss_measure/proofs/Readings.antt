@@ -1,4 +1,5 @@
 -- The laws of what measuring answers, one for each answer, in document 01's order: 10, 1 or 16, 2, 3, 7, then the frame.
+use Rattle.std.specs.Prelude.{Result, Ok, Err}
 use Prim.Native.Nat.{ℕ, ◌-◌, ◌≤◌, ◌<◌}
 use native.Mathlib.Omega.{arith}
 use mathlib.Core.Path.{◌≡◌, refl, sym, ap, ◌∙◌}
@@ -13,12 +14,9 @@ use Rattle.answer.specs.declared.Refusal.TheVariants.{Incomplete, LengthTooShort
 use Rattle.answer.specs.declared.Refused.{Refused}
 use Rattle.dss_head.specs.Heads.{head_at}
 use Rattle.dss_head.specs.declared.DssHeader.{DssHeader}
-use Rattle.dss_head.specs.declared.HeadFound.{HeadFound}
-use Rattle.dss_head.specs.declared.HeadFound.TheVariants.{Head, Refused as NoHead}
 use Rattle.dss_frame.specs.declared.Rules.{Rules}
 use Rattle.dss_frame.specs.Segments.{Segment, Walk, whole, short, dead, first, payload_of, end_of, frame_walk}
 use Rattle.dss_frame.specs.Reading.{refused, read_at, read_walk, read_head, absorb}
-use Rattle.dss_measure.specs.declared.Measured.TheVariants.{Frame as Gives, Refused as NotMeasured}
 use Rattle.dss_measure.specs.declared.Walked.TheVariants.{Whole, Short, Dead}
 use Rattle.dss_measure.specs.inner.Walking.{walked_of, walked_at}
 use Rattle.dss_measure.specs.Measure.{measured_of, measured_at}
@@ -26,7 +24,7 @@ use Rattle.dss_measure.proofs.WalkLaws.{frame_nothing, single_short, single_walk
 
 module _ (rules : Rules) (s : List ℕ) (p : ℕ) where
   -- "order: 10"
-  pub measured_beyond : length s < p → measured_at rules s p ≡ NotMeasured (out_of_bounds p (length s))
+  pub measured_beyond : length s < p → measured_at rules s p ≡ Err (out_of_bounds p (length s))
   unfolding measured_at read_at
   measured_beyond h = ap (measured_of s p) (pick_no _ _ (lt-leb p (length s) h))
 
@@ -45,11 +43,11 @@ module _ (rules : Rules) (s : List ℕ) (p : ℕ) where
   dead_walk short d e = let z : ◌≡◌ {A = ℕ} 0 1 = cc in absurd (omega arith)
   dead_walk (dead q) d e = let z : q ≡ d = cc in ap (λ (x : ℕ). refused (record { why = DeadContinuation; place = x })) z
 
-  pub measured_short : p ≤ length s → walked_at rules s p ≡ Short → measured_at rules s p ≡ NotMeasured (record { why = Incomplete; place = p })
+  pub measured_short : p ≤ length s → walked_at rules s p ≡ Short → measured_at rules s p ≡ Err (record { why = Incomplete; place = p })
   unfolding walked_at
   measured_short h e = reads h (frame_walk rules s p) refl ∙ ap (measured_of s p) (short_walk (frame_walk rules s p) e)
 
-  pub measured_dead : (d : ℕ) → p ≤ length s → walked_at rules s p ≡ Dead d → measured_at rules s p ≡ NotMeasured (record { why = DeadContinuation; place = d })
+  pub measured_dead : (d : ℕ) → p ≤ length s → walked_at rules s p ≡ Dead d → measured_at rules s p ≡ Err (record { why = DeadContinuation; place = d })
   unfolding walked_at
   measured_dead d h e = reads h (frame_walk rules s p) refl ∙ ap (measured_of s p) (dead_walk (frame_walk rules s p) d e)
 
@@ -80,27 +78,27 @@ module _ (rules : Rules) (s : List ℕ) (p : ℕ) where
     unfolding walked_at
     of_walk = whole_walk e k n (frame_walk rules s p) w
 
-    headed : (f : HeadFound) → f ≡ head_at s p → measured_at rules s p ≡ measured_of s p (read_head rules s p of_walk.segments f)
-    headed f i = reads (omega (arith, whole_six)) (whole of_walk.segments) of_walk.is ∙ ap (λ (x : HeadFound). measured_of s p (read_head rules s p of_walk.segments x)) (sym i)
+    headed : (f : Result DssHeader Refused) → f ≡ head_at s p → measured_at rules s p ≡ measured_of s p (read_head rules s p of_walk.segments f)
+    headed f i = reads (omega (arith, whole_six)) (whole of_walk.segments) of_walk.is ∙ ap (λ (x : Result DssHeader Refused). measured_of s p (read_head rules s p of_walk.segments x)) (sym i)
 
     -- "then head 2, 3"
-    pub measured_refused : (r : Refused) → NoHead r ≡ head_at s p → measured_at rules s p ≡ NotMeasured r
-    measured_refused r i = headed (NoHead r) i
+    pub measured_refused : (r : Refused) → Err r ≡ head_at s p → measured_at rules s p ≡ Err r
+    measured_refused r i = headed (Err r) i
 
-    module _ (h : DssHeader) (i : Head h ≡ head_at s p) (raw : ℕ) (l : raw ≡ be16 s p) where
+    module _ (h : DssHeader) (i : Ok h ≡ head_at s p) (raw : ℕ) (l : raw ≡ be16 s p) where
       -- "7"
-      pub measured_length : raw < 6 → measured_at rules s p ≡ NotMeasured (record { why = LengthTooShort raw; place = p })
+      pub measured_length : raw < 6 → measured_at rules s p ≡ Err (record { why = LengthTooShort raw; place = p })
       measured_length m =
-          headed (Head h) i
+          headed (Ok h) i
           ∙ ap (measured_of s p) (pick_yes _ _ (lt-ltb (be16 s p) 6 (omega arith)))
-          ∙ ap (λ (x : ℕ). NotMeasured (record { why = LengthTooShort x; place = p })) (sym l)
+          ∙ ap (λ (x : ℕ). Err (record { why = LengthTooShort x; place = p })) (sym l)
 
       -- "A 0xFFFF frame is its chunks joined, head length 32,767, and nothing is absorbed"
-      pub measured_several : raw ≡ 65535 → measured_at rules s p ≡ Gives (record { header = h; payload_len = n; segments = k; end = e })
+      pub measured_several : raw ≡ 65535 → measured_at rules s p ≡ Ok (record { header = h; payload_len = n; segments = k; end = e })
       measured_several m =
-          headed (Head h) i
+          headed (Ok h) i
           ∙ ap (measured_of s p) (pick_no _ _ (le-ltb (be16 s p) 6 (omega arith)) ∙ pick_yes _ _ (eq-eqb (be16 s p) 65535 (sym l ∙ m)))
-          ∙ (λ j. Gives (record { header = h; payload_len = of_walk.long j; segments = of_walk.counted j; end = of_walk.ends j }))
+          ∙ (λ j. Ok (record { header = h; payload_len = of_walk.long j; segments = of_walk.counted j; end = of_walk.ends j }))
 
       module _ (m : raw ≡ 65535 → ⊥) where
         -- its bytes are there
@@ -113,5 +111,5 @@ module _ (rules : Rules) (s : List ℕ) (p : ℕ) where
         pub measured_single : 6 ≤ raw → measured_at rules s p ≡ measured_of s p (absorb rules s p h (first p raw ∷ []))
         measured_single j =
             reads (omega (arith, whole_six)) (whole (first p raw ∷ [])) (single_walk rules s p raw l whole_six m single_there)
-            ∙ ap (λ (x : HeadFound). measured_of s p (read_head rules s p (first p raw ∷ []) x)) (sym i)
+            ∙ ap (λ (x : Result DssHeader Refused). measured_of s p (read_head rules s p (first p raw ∷ []) x)) (sym i)
             ∙ ap (measured_of s p) (pick_no _ _ (le-ltb (be16 s p) 6 (omega arith)) ∙ pick_no _ _ (ne_eqb (be16 s p) 65535 (λ y. m (l ∙ y))))

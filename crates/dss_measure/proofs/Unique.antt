@@ -1,4 +1,5 @@
 -- Any two outcomes that a contract of this crate allows are equal. Each statement names the contract, and doesn't write it again.
+use Rattle.std.specs.Prelude.{Result}
 use Prim.Native.Nat.{ℕ}
 use mathlib.Core.Path.{◌≡◌, refl, sym, ◌∙◌}
 use mathlib.Core.Bool.{Bool}
@@ -8,15 +9,12 @@ use denote.Ref.{Bor}
 use Rattle.dss_head.specs.Heads.{head_at}
 use Rattle.dss_head.specs.declared.Chunk.{Chunk}
 use Rattle.dss_head.specs.declared.DssType.{DssType}
-use Rattle.dss_head.specs.declared.HeadFound.{HeadFound}
 use Rattle.dss_frame.specs.Rules.{chunk_under}
 use Rattle.dss_frame.specs.declared.DssFrame.{DssFrame}
 use Rattle.dss_frame.specs.declared.Rules.{Rules}
 use Rattle.dss_frame.specs.Reading.{look}
-use Rattle.dss_measure.specs.declared.Extent.{Extent}
 use Rattle.dss_measure.specs.declared.FrameMeasure.{FrameMeasure}
 use Rattle.dss_measure.specs.declared.Look.{Look}
-use Rattle.dss_measure.specs.declared.Measured.{Measured}
 use Rattle.dss_measure.specs.declared.Walked.{Walked}
 use Rattle.dss_measure.specs.inner.Walking.{walked_at, looked_of}
 use Rattle.dss_measure.specs.Measure.{measured_at, extent_of}
@@ -27,8 +25,11 @@ use Rattle.dss_measure.proofs.walk_frame.Reads as walk_frame
 use Rattle.dss_measure.proofs.look_behind.Reads as look_behind
 use Rattle.dss_measure.proofs.measure.Reads as measure
 use Rattle.dss_measure.proofs.measure_extent.Reads as measure_extent
+use Rattle.dss_head.specs.declared.DssHeader.{DssHeader}
+use Rattle.dss_measure.specs.declared.Extent.{Extent}
+use Rattle.answer.specs.declared.Refused.{Refused}
 
-pub head_at_one : (κs : Lfts 1) (run : Bor (List ℕ)) (at : ℕ) (r r' : HeadFound)
+pub head_at_one : (κs : Lfts 1) (run : Bor (List ℕ)) (at : ℕ) (r r' : Result DssHeader Refused)
     → head_at_call.Post κs (run, (at, tt)) r (run, (at, tt)) → head_at_call.Post κs (run, (at, tt)) r' (run, (at, tt)) → r ≡ r'
 head_at_one κs run at r r' p q = p ∙ sym q
 
@@ -47,12 +48,12 @@ pub look_behind_one : (κs : Lfts 1) (rules : Rules) (run : Bor (List ℕ)) (fir
     → r ≡ r'
 look_behind_one κs rules run first extended at r r' p q = p ∙ sym q
 
-pub measure_one : (κs : Lfts 1) (rules : Rules) (run : Bor (List ℕ)) (at : ℕ) (r r' : Measured)
+pub measure_one : (κs : Lfts 1) (rules : Rules) (run : Bor (List ℕ)) (at : ℕ) (r r' : Result FrameMeasure Refused)
     → measure.Post κs (rules, (run, (at, tt))) r (rules, (run, (at, tt))) → measure.Post κs (rules, (run, (at, tt))) r' (rules, (run, (at, tt)))
     → r ≡ r'
 measure_one κs rules run at r r' p q = p ∙ sym q
 
-pub measure_extent_one : (κs : Lfts 1) (rules : Rules) (run : Bor (List ℕ)) (at : ℕ) (r r' : Extent)
+pub measure_extent_one : (κs : Lfts 1) (rules : Rules) (run : Bor (List ℕ)) (at : ℕ) (r r' : Result Extent Refused)
     → measure_extent.Post κs (rules, (run, (at, tt))) r (rules, (run, (at, tt))) → measure_extent.Post κs (rules, (run, (at, tt))) r' (rules, (run, (at, tt)))
     → r ≡ r'
 measure_extent_one κs rules run at r r' p q = p ∙ sym q

@@ -1,8 +1,7 @@
 // What a head that stands behind a frame comes to. Document 01, "Any other frame then looks at what follows".
-ghost use Rattle.std.specs.Prelude.{◌≡◌, ◌+◌, ◌≤◌, length};
+ghost use Rattle.std.specs.Prelude.{◌≡◌, ◌+◌, ◌≤◌, length, Ok};
 ghost use Rattle.wire.specs.Bytes.{be16, marker};
 ghost use Rattle.dss_head.specs.declared.DssType.TheVariants.{Object as asObject};
-ghost use Rattle.dss_head.specs.declared.HeadFound.TheVariants.{Head};
 ghost use Rattle.dss_frame.specs.Reading.{follows, own_object, dropped_at, refusal, look_at};
 ghost use Rattle.dss_measure.specs.inner.Walking.{looked_of};
 
@@ -103,7 +102,7 @@ pub(crate) fn look_head(
     at: usize,
     header: DssHeader,
 ) -> Look
-    ensures { result ≡ looked_of (look_at rules run.now first extended at (Head header)) }
+    ensures { result ≡ looked_of (look_at rules run.now first extended at (Ok header)) }
 {
     let raw = wire::u16_at(run, at);
     if raw == DSS_CONTINUED {

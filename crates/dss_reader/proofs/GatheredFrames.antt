@@ -1,5 +1,6 @@
 -- The parts that `read_all_frames` is made of: what the payloads' part answers, how many records an answer has, and that those are the
 -- definition's.
+use Rattle.std.specs.Prelude.{Result, Ok, Err}
 use Prim.Native.Nat.{ℕ, ◌≤◌, ◌<◌}
 use native.Mathlib.Omega.{arith}
 use mathlib.Core.Path.{◌≡◌, refl, sym, ap, ap₂, ◌∙◌}
@@ -21,14 +22,14 @@ use Rattle.dss_frame.specs.inner.RowStart.{starts_at}
 use Rattle.dss_row.proofs.FrameRowLaws.{records_none, records_all}
 use Rattle.wire.proofs.FilledRow.{splice_nothing}
 use Rattle.dss_reader.specs.declared.DssReader.{DssReader}
-use Rattle.dss_reader.specs.declared.FramesRead.{FramesRead}
-use Rattle.dss_reader.specs.declared.FramesRead.TheVariants.{Frames, Refused as NoneRead}
 use Rattle.dss_reader.proofs.MeasuredFrames.{Counted}
 use Rattle.dss_reader.specs.inner.TakingAll.{all_payloads, FitsAll}
 use Rattle.dss_reader.specs.Reader.{stands_at, left_at, frames_fit, given_frames, room_all, row_all, ReadAllFrames, GathersFrames, records_in}
+use Rattle.dss_reader.specs.declared.FramesRead.{FramesRead}
+use Rattle.dss_reader.specs.Reader.{frames_read}
 
 -- any refusal but 9
-pub answers_refused : (s : List ℕ) (p size rows : ℕ) (x : Refused) → all_frames s p ≡ refused_all x → NoneRead x (left_at p x) ≡ given_frames s p size rows (all_frames s p)
+pub answers_refused : (s : List ℕ) (p size rows : ℕ) (x : Refused) → all_frames s p ≡ refused_all x → (Err x, left_at p x) ≡ given_frames s p size rows (all_frames s p)
 answers_refused s p size rows x e = sym (ap (given_frames s p size rows) e)
 
 module _ (size rows : ℕ) {s : List ℕ} {p count bytes end : ℕ} (w : Counted s p count bytes end) where
@@ -45,21 +46,21 @@ module _ (size rows : ℕ) {s : List ℕ} {p count bytes end : ℕ} (w : Counted
       ∙ and_no (leb (length (payloads_of s w.read)) size)
 
   -- 9
-  pub answers_none : (r : FramesRead) → fits ≡ false → r ≡ NoneRead (no_room p bytes count) (stands_at p) → r ≡ given_frames s p size rows (all_frames s p)
+  pub answers_none : (r : Result FramesRead Refused × DssReader) → fits ≡ false → r ≡ (Err (no_room p bytes count), stands_at p) → r ≡ given_frames s p size rows (all_frames s p)
   answers_none r t e =
       e
       ∙ sym
       (ap (given_frames s p size rows) w.is
       ∙ pick_no _ _ t
-      ∙ ap₂ (λ (b c : ℕ). NoneRead (no_room p b c) (stands_at p)) w.long w.counted)
+      ∙ ap₂ (λ (b c : ℕ). (Err (no_room p b c), stands_at p)) w.long w.counted)
 
   -- the frames
-  pub answers_frames : bytes ≤ size → count ≤ rows → Frames count bytes (stands_at end) ≡ given_frames s p size rows (all_frames s p)
+  pub answers_frames : bytes ≤ size → count ≤ rows → (Ok (frames_read count bytes), stands_at end) ≡ given_frames s p size rows (all_frames s p)
   answers_frames h k =
       sym
       (ap (given_frames s p size rows) w.is
       ∙ pick_yes _ _ both
-      ∙ ap₂ (λ (b c : ℕ). Frames c b (stands_at end)) w.long w.counted)
+      ∙ ap₂ (λ (b c : ℕ). (Ok (frames_read c b), stands_at end)) w.long w.counted)
     where
       both : fits ≡ true
       both =
@@ -76,14 +77,14 @@ pub record Fitted (s : List ℕ) (p size rows count : ℕ) : Type 0 where
   pub fit : frames_fit s read size rows ≡ true
   pub counted : length read ≡ count
 
-not_frames : (x : Refused) (d e : DssReader) (count bytes : ℕ) → NoneRead x d ≡ Frames count bytes e → ⊥
+not_frames : (x : Refused) (d e : DssReader) (count bytes : ℕ) → (Err x, d) ≡ (Ok (frames_read count bytes), e) → ⊥
 not_frames x d e count bytes k = let z : ◌≡◌ {A = ℕ} 0 1 = cc in omega arith
 
 module _ (s : List ℕ) (p size rows : ℕ) where
-  pub fitted : (r : FramesRead) (count bytes : ℕ) (d : DssReader) → r ≡ given_frames s p size rows (all_frames s p) → r ≡ Frames count bytes d → Fitted s p size rows count
+  pub fitted : (r : Result FramesRead Refused × DssReader) (count bytes : ℕ) (d : DssReader) → r ≡ given_frames s p size rows (all_frames s p) → r ≡ (Ok (frames_read count bytes), d) → Fitted s p size rows count
   fitted r count bytes d e k = of_all (all_frames s p) refl (sym e ∙ k)
     where
-      of_all : (a : AllRead) → all_frames s p ≡ a → given_frames s p size rows a ≡ Frames count bytes d → Fitted s p size rows count
+      of_all : (a : AllRead) → all_frames s p ≡ a → given_frames s p size rows a ≡ (Ok (frames_read count bytes), d) → Fitted s p size rows count
       of_all (refused_all x) i l = absurd (not_frames x _ _ _ _ l)
       of_all (frames fs q) i l =
           picked (frames_fit s fs size rows) l (λ t m. record { read = fs; end = q; is = i; fit = t; counted = cc })
@@ -91,10 +92,10 @@ module _ (s : List ℕ) (p size rows : ℕ) where
 
 module _ (s : List ℕ) (p : ℕ) (room : List ℕ) (rows : ℕ) where
   -- nothing is laid down
-  pub room_kept : (r : FramesRead) (x : Refused) (d : DssReader) → r ≡ given_frames s p (length room) rows (all_frames s p) → r ≡ NoneRead x d → room ≡ room_all s room rows (all_frames s p)
+  pub room_kept : (r : Result FramesRead Refused × DssReader) (x : Refused) (d : DssReader) → r ≡ given_frames s p (length room) rows (all_frames s p) → r ≡ (Err x, d) → room ≡ room_all s room rows (all_frames s p)
   room_kept r x d e k = of_all (all_frames s p) (sym e ∙ k)
     where
-      of_all : (a : AllRead) → given_frames s p (length room) rows a ≡ NoneRead x d → room ≡ room_all s room rows a
+      of_all : (a : AllRead) → given_frames s p (length room) rows a ≡ (Err x, d) → room ≡ room_all s room rows a
       of_all (refused_all y) l = refl
       of_all (frames fs q) l =
           picked (frames_fit s fs (length room) rows) l (λ t m. absurd (not_frames x d _ _ _ (sym m)))
@@ -131,14 +132,14 @@ filled_is : (s : List ℕ) (p size : ℕ) (row : List DssFrame) (a : AllRead) �
 filled_is s p size row (refused_all r) e = filled_none s p row
 filled_is s p size row (frames fs q) e =
     by (frames_fit s fs size (length row))
-    (λ t. ap (λ (r : FramesRead). filled s p row (records_in r)) (pick_yes _ _ t)
+    (λ t. ap (λ (r : Result FramesRead Refused × DssReader). filled s p row (records_in r)) (pick_yes _ _ t)
     ∙ ap (λ (l : List DssFrame). splice row 0 l)
     (records_all fs (length row) s p 0 q e (leb-true _ _ (and_split (leb (length (payloads_of s fs)) size) (leb (length fs) (length row)) t).1))
     ∙ sym (pick_yes _ _ t))
-    (λ t. ap (λ (r : FramesRead). filled s p row (records_in r)) (pick_no _ _ t) ∙ filled_none s p row ∙ sym (pick_no _ _ t))
+    (λ t. ap (λ (r : Result FramesRead Refused × DssReader). filled s p row (records_in r)) (pick_no _ _ t) ∙ filled_none s p row ∙ sym (pick_no _ _ t))
 
 -- the parts together
-pub read_all_is : (s : List ℕ) (p : ℕ) (room : List ℕ) (row : List DssFrame) (r : FramesRead) (roomAfter : List ℕ) (rowAfter : List DssFrame) (count : ℕ)
+pub read_all_is : (s : List ℕ) (p : ℕ) (room : List ℕ) (row : List DssFrame) (r : Result FramesRead Refused × DssReader) (roomAfter : List ℕ) (rowAfter : List DssFrame) (count : ℕ)
     → GathersFrames s p room (length row) r roomAfter → count ≡ records_in r → rowAfter ≡ splice row 0 (records_from (length row) s (starts_at p count))
     → ReadAllFrames s p room row r roomAfter rowAfter
 read_all_is s p room row r roomAfter rowAfter count w c e =

@@ -1,4 +1,5 @@
 -- The laws of payloads taken into lent room: one frame's, and all of them end to end.
+use Rattle.std.specs.Prelude.{Result, Ok, Err}
 use Prim.Native.Nat.{ℕ, suc, ◌+◌, ◌-◌, ◌≤◌, ◌<◌}
 use native.Mathlib.Omega.{arith}
 use mathlib.Core.Path.{◌≡◌, refl, sym, ap, ap₂, ◌∙◌}
@@ -20,12 +21,9 @@ use Rattle.dss_frame.specs.FrameRecords.{payloads_of}
 use Rattle.dss_laws.proofs.Bounds.{OfFrame, is_frame, is_refused, Past, read_past}
 use Rattle.dss_laws.proofs.FramesLaws.{frames_step, frames_more}
 use Rattle.dss_measure.specs.declared.FrameMeasure.{FrameMeasure}
-use Rattle.dss_measure.specs.declared.Measured.{Measured}
-use Rattle.dss_measure.specs.declared.Measured.TheVariants.{Frame as Measures, Refused as NotMeasured}
 use Rattle.dss_measure.specs.Measure.{measure_of, measured_of, measured_at}
 use Rattle.dss_take.specs.Take.{taken_of, room_read, Takes}
 use Rattle.dss_reader.specs.declared.DssReader.{DssReader}
-use Rattle.dss_reader.specs.declared.FrameRead.TheVariants.{Refused as NotRead}
 use Rattle.dss_reader.specs.Reader.{left_at, given_frame, read_of, NextFrame}
 use Rattle.dss_reader.specs.inner.TakingAll.{all_payloads, FitsAll}
 
@@ -40,7 +38,7 @@ module _ (s : List ℕ) (p : ℕ) where
       (λ t. ap (read_of p) (pick_no _ _ t) ∙ sym (pick_no _ _ t))
 
   -- W-208: what was taken is what `next_frame` answers
-  pub next_is : (room : List ℕ) (m r : Measured) (after : List ℕ) → Takes Reader s p room r after → r ≡ m → NextFrame s p room (read_of p m) after
+  pub next_is : (room : List ℕ) (m r : Result FrameMeasure Refused) (after : List ℕ) → Takes Reader s p room r after → r ≡ m → NextFrame s p room (read_of p m) after
   next_is room m r after w e =
       record {
         answers = ap (read_of p) (sym e ∙ w.answers) ∙ read_is (length room) (read_at Reader s p);
@@ -48,9 +46,9 @@ module _ (s : List ℕ) (p : ℕ) where
       }
 
   -- a refusal, with the reader that it leaves
-  pub next_refused : (room : List ℕ) (x : Refused) (d : DssReader) (r : Measured) (after : List ℕ) → Takes Reader s p room r after → r ≡ NotMeasured x → d ≡ left_at p x
-      → NextFrame s p room (NotRead x d) after
-  next_refused room x d r after w e i = record { answers = ap (NotRead x) i ∙ (next_is room (NotMeasured x) r after w e).answers; room_is = w.room_is }
+  pub next_refused : (room : List ℕ) (x : Refused) (d : DssReader) (r : Result FrameMeasure Refused) (after : List ℕ) → Takes Reader s p room r after → r ≡ Err x → d ≡ left_at p x
+      → NextFrame s p room (Err x, d) after
+  next_refused room x d r after w e i = record { answers = ap (⟪NotRead⟫ x) i ∙ (next_is room (Err x) r after w e).answers; room_is = w.room_is }
 
 -- ---- what taking says of the frame
 
@@ -63,10 +61,10 @@ record Took (s : List ℕ) (p : ℕ) (room : List ℕ) (m : FrameMeasure) (after
   room_is : after ≡ splice room 0 (payload_of s read.segments)
 
 module _ (s : List ℕ) (p : ℕ) (room : List ℕ) (after : List ℕ) where
-  took : (m : FrameMeasure) (a : Measured) → Takes Reader s p room a after → a ≡ Measures m → Took s p room m after
+  took : (m : FrameMeasure) (a : Result FrameMeasure Refused) → Takes Reader s p room a after → a ≡ Ok m → Took s p room m after
   took m a w n = of_read (read_at Reader s p) refl (sym n ∙ w.answers) w.room_is
     where
-      of_read : (r : Read) → read_at Reader s p ≡ r → Measures m ≡ taken_of s p (length room) r → after ≡ room_read s room r → Took s p room m after
+      of_read : (r : Read) → read_at Reader s p ≡ r → Ok m ≡ taken_of s p (length room) r → after ≡ room_read s room r → Took s p room m after
       of_read (refused r) i k l = let z : ◌≡◌ {A = ℕ} 0 1 = cc in absurd (omega arith)
       of_read (frame f) i k l =
           picked (leb (length (payload_of s f.segments)) (length room)) (sym k)
@@ -76,13 +74,13 @@ module _ (s : List ℕ) (p : ℕ) (room : List ℕ) (after : List ℕ) where
           (λ t e. let z : ◌≡◌ {A = ℕ} 0 1 = cc in absurd (omega arith))
 
   -- nothing was taken: there is none, and the room is as it was, or it didn't fit
-  not_taken : {ℓ : Type 0} (x : Refused) (a : Measured) → Takes Reader s p room a after → a ≡ NotMeasured x
+  not_taken : {ℓ : Type 0} (x : Refused) (a : Result FrameMeasure Refused) → Takes Reader s p room a after → a ≡ Err x
       → ((r : Refused) → read_at Reader s p ≡ refused r → after ≡ room → ℓ)
       → ((f : Frame) → read_at Reader s p ≡ frame f → (length (payload_of s f.segments) ≤ length room → ⊥) → ℓ)
       → ℓ
   not_taken {ℓ} x a w n none wide = of_read (read_at Reader s p) refl (sym n ∙ w.answers) w.room_is
     where
-      of_read : (r : Read) → read_at Reader s p ≡ r → NotMeasured x ≡ taken_of s p (length room) r → after ≡ room_read s room r → ℓ
+      of_read : (r : Read) → read_at Reader s p ≡ r → Err x ≡ taken_of s p (length room) r → after ≡ room_read s room r → ℓ
       of_read (refused r) i k l = none r i l
       of_read (frame f) i k l =
           picked (leb (length (payload_of s f.segments)) (length room)) (sym k)
@@ -153,7 +151,7 @@ module _ {s whole room : List ℕ} {at mark : ℕ} (w : TakingAll s whole room a
       omega (arith, w.fits, ap length (payloads_cons f v), length-append (payload_of s f.segments) (payloads_of s v.rest))
 
   -- a frame's payload was laid down, and more follow
-  pub taking_more : (m : FrameMeasure) (a : Measured) → Takes Reader s at tail a t → a ≡ Measures m → TakingAll s whole back m.end (mark + m.payload_len)
+  pub taking_more : (m : FrameMeasure) (a : Result FrameMeasure Refused) → Takes Reader s at tail a t → a ≡ Ok m → TakingAll s whole back m.end (mark + m.payload_len)
   taking_more m a k i = made (took s at tail t m a k i)
     where
       made : Took s at tail m t → TakingAll s whole back m.end (mark + m.payload_len)
@@ -180,13 +178,13 @@ module _ {s whole room : List ℕ} {at mark : ℕ} (w : TakingAll s whole room a
           }
 
   -- it fits
-  pub taking_room : (m : FrameMeasure) (a : Measured) → Takes Reader s at tail a t → a ≡ Measures m → mark + m.payload_len ≤ length room
+  pub taking_room : (m : FrameMeasure) (a : Result FrameMeasure Refused) → Takes Reader s at tail a t → a ≡ Ok m → mark + m.payload_len ≤ length room
   taking_room m a k i =
       let o : Took s at tail m t = took s at tail t m a k i in
       omega (arith, first_fits o.read o.is, ap (λ (z : FrameMeasure). z.payload_len) o.measure)
 
   -- and it takes bytes of the run
-  pub taking_past : (m : FrameMeasure) (a : Measured) → Takes Reader s at tail a t → a ≡ Measures m → (at + 6 ≤ m.end) × (m.end ≤ length s)
+  pub taking_past : (m : FrameMeasure) (a : Result FrameMeasure Refused) → Takes Reader s at tail a t → a ≡ Ok m → (at + 6 ≤ m.end) × (m.end ≤ length s)
   taking_past m a k i = of_took (took s at tail t m a k i) (read_past Reader s at)
     where
       of_frame : (o : Took s at tail m t) (r : Read) → read_at Reader s at ≡ r → OfFrame (Past s at (at + 6)) r → (at + 6 ≤ m.end) × (m.end ≤ length s)
@@ -209,7 +207,7 @@ module _ {s whole room : List ℕ} {at mark : ℕ} (w : TakingAll s whole room a
       (λ t i. let z : ◌≡◌ {A = ℕ} 0 1 = cc in absurd (omega arith))
 
   -- the last was taken: the room is the one that was to come
-  pub taking_done : (x : Refused) (a : Measured) → Takes Reader s at tail a t → a ≡ NotMeasured x → back ≡ whole
+  pub taking_done : (x : Refused) (a : Result FrameMeasure Refused) → Takes Reader s at tail a t → a ≡ Err x → back ≡ whole
   unfolding payloads_of
   taking_done x a k j =
       not_taken s at tail t x a k j
@@ -220,21 +218,21 @@ module _ {s whole room : List ℕ} {at mark : ℕ} (w : TakingAll s whole room a
 
   -- ---- the same, with how many are left
 
-  pub taking_measured : (m : FrameMeasure) (a : Measured) → Takes Reader s at tail a t → a ≡ Measures m → measured_at Reader s at ≡ Measures m
+  pub taking_measured : (m : FrameMeasure) (a : Result FrameMeasure Refused) → Takes Reader s at tail a t → a ≡ Ok m → measured_at Reader s at ≡ Ok m
   unfolding measured_at
   taking_measured m a k i =
       let o : Took s at tail m t = took s at tail t m a k i in
-      ap (measured_of s at) o.is ∙ ap Measures o.measure
+      ap (measured_of s at) o.is ∙ ap Ok o.measure
 
   -- one fewer
-  pub taking_fewer : (m : FrameMeasure) (a : Measured) (k : Takes Reader s at tail a t) (i : a ≡ Measures m) → length w.left ≡ suc (length (taking_more m a k i).left)
+  pub taking_fewer : (m : FrameMeasure) (a : Result FrameMeasure Refused) (k : Takes Reader s at tail a t) (i : a ≡ Ok m) → length w.left ≡ suc (length (taking_more m a k i).left)
   unfolding taking_more
   taking_fewer m a k i =
       let o : Took s at tail m t = took s at tail t m a k i in
       ap length (follows o.read o.is).cons
 
   -- where one is left, one is taken
-  pub taking_never : (x : Refused) (a : Measured) → Takes Reader s at tail a t → a ≡ NotMeasured x → 0 < length w.left → ⊥
+  pub taking_never : (x : Refused) (a : Result FrameMeasure Refused) → Takes Reader s at tail a t → a ≡ Err x → 0 < length w.left → ⊥
   taking_never x a k j h =
       not_taken s at tail t x a k j (λ r e i. let z : length w.left ≡ 0 = ap length (none_left r e) in omega arith)
       (λ f e l. l (omega (arith, first_fits f e, tail_length)))

@@ -9,7 +9,6 @@ ghost use Rattle.dss_frame.specs.Frames.{all_frames};
 ghost use Rattle.dss_reader.specs.Reader.{stands_at, left_at, frame_end, is_end, NextFrame, given_frames, ReadAllFrames, GathersFrames, records_in};
 ghost use Rattle.dss_reader.specs.inner.MeasuredAll.{measured_frames};
 ghost use Rattle.dss_reader.specs.inner.TakingAll.{all_payloads, FitsAll};
-ghost use Rattle.dss_reader.specs.declared.FramesRead;
 
 use answer::{Refusal, Refused};
 use dss_frame::{DssFrame, Rules};
@@ -145,7 +144,7 @@ pub(crate) fn take_all(run: &[u8], from: usize, room: &mut [u8])
 
 // 9, with the position where it was.
 pub(crate) fn no_room(at: usize, bytes: usize, records: usize) -> FramesRead
-    ensures { result ≡ FramesRead.Refused (no_room at bytes records) (stands_at at) }
+    ensures { result ≡ ⟪FramesRead⟫.Refused (no_room at bytes records) (stands_at at) }
 {
     let refused = Refused::no_room(bytes, records, at);
     FramesRead::Refused(refused, DssReader { position: at })

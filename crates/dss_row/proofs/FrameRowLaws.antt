@@ -1,4 +1,5 @@
 -- The laws of the records of a run's frames.
+use Rattle.std.specs.Prelude.{Option, Some, None}
 use Prim.Native.Nat.{ℕ, zero, suc, ◌+◌, ◌-◌, ◌≤◌}
 use native.Mathlib.Omega.{arith}
 use mathlib.Core.Path.{◌≡◌, refl, sym, ap, ◌∙◌}
@@ -19,8 +20,6 @@ use Rattle.dss_laws.proofs.FramesLaws.{frames_step}
 use Rattle.dss_measure.specs.declared.FrameMeasure.{FrameMeasure}
 use Rattle.dss_measure.specs.Measure.{measured_record}
 use Rattle.dss_frame.specs.declared.RowPlace.{RowPlace}
-use Rattle.dss_row.specs.declared.RecordFound.{RecordFound}
-use Rattle.dss_row.specs.declared.RecordFound.TheVariants.{One, End}
 use Rattle.dss_laws.proofs.Thin.{Thin, read_thin}
 use Rattle.dss_measure.proofs.Measures.{Measures}
 use Rattle.dss_row.specs.inner.FrameRows.{found_of, record_at, one_more, records_from}
@@ -29,7 +28,7 @@ use Rattle.dss_row.specs.inner.FrameRows.{found_of, record_at, one_more, records
 
 module _ (s : List ℕ) (x : RowPlace) where
   -- no more are to come
-  pub record_none : x.left ≡ 0 → record_at s x ≡ End
+  pub record_none : x.left ≡ 0 → record_at s x ≡ None
   unfolding record_at
   record_none h = pick_yes _ _ (eq-eqb x.left 0 h)
 
@@ -39,19 +38,19 @@ module _ (s : List ℕ) (x : RowPlace) where
 
   -- the record of a measure, and the place behind it
   pub record_measured : (m : FrameMeasure) → (x.left ≡ 0 → ⊥) → Measures Reader s x.at m
-      → record_at s x ≡ One (measured_record x.at x.payload_at m) (record { at = m.end; payload_at = x.payload_at + m.payload_len; left = x.left - 1 })
+      → record_at s x ≡ Some (measured_record x.at x.payload_at m, record { at = m.end; payload_at = x.payload_at + m.payload_len; left = x.left - 1 })
   record_measured m h w =
       record_read (frame w.whole) h w.reads
-      ∙ ap (λ (y : FrameMeasure). One (measured_record x.at x.payload_at y) (record { at = y.end; payload_at = x.payload_at + y.payload_len; left = x.left - 1 }))
+      ∙ ap (λ (y : FrameMeasure). Some (measured_record x.at x.payload_at y, record { at = y.end; payload_at = x.payload_at + y.payload_len; left = x.left - 1 }))
       w.same
 
 -- a place behind a record lies no further into the room than into the run, if that before it does
-pub found_low : (s : List ℕ) (x : RowPlace) (r : DssFrame) (next : RowPlace) → x.payload_at ≤ x.at → One r next ≡ record_at s x → next.payload_at ≤ next.at
+pub found_low : (s : List ℕ) (x : RowPlace) (r : DssFrame) (next : RowPlace) → x.payload_at ≤ x.at → Some (r, next) ≡ record_at s x → next.payload_at ≤ next.at
 unfolding record_at
 found_low s x r next h e =
     picked (eqb x.left 0) (sym e) (λ t z. let y : ◌≡◌ {A = ℕ} 0 1 = cc in absurd (omega arith)) (λ t z. of_read (read_at Reader s x.at) (read_thin Reader s x.at) z)
   where
-    of_read : (a : Read) → OfFrame (λ (f : Frame). Thin s x.at f.segments) a → found_of s x a ≡ One r next → next.payload_at ≤ next.at
+    of_read : (a : Read) → OfFrame (λ (f : Frame). Thin s x.at f.segments) a → found_of s x a ≡ Some (r, next) → next.payload_at ≤ next.at
     of_read a (is_frame f k) z =
         let i : x.payload_at + length (payload_of s f.segments) ≡ next.payload_at = cc in
         let j : end_of x.at f.segments ≡ next.at = cc in
@@ -61,9 +60,9 @@ found_low s x r next h e =
 -- ---- a row of them
 
 -- what is found first comes first
-pub records_step : (n : ℕ) (s : List ℕ) (x : RowPlace) (f : RecordFound) → f ≡ record_at s x → records_from (suc n) s x ≡ one_more f (records_from n s)
+pub records_step : (n : ℕ) (s : List ℕ) (x : RowPlace) (f : Option (DssFrame × RowPlace)) → f ≡ record_at s x → records_from (suc n) s x ≡ one_more f (records_from n s)
 unfolding records_from
-records_step n s x f e = ap (λ (g : RecordFound). one_more g (λ next. records_from n s next)) (sym e)
+records_step n s x f e = ap (λ (g : Option (DssFrame × RowPlace)). one_more g (λ next. records_from n s next)) (sym e)
 
 -- a row with no place left
 pub records_full : (s : List ℕ) (x : RowPlace) → records_from 0 s x ≡ []
@@ -73,7 +72,7 @@ records_full s x = refl
 -- none are to come
 pub records_none : (n : ℕ) (s : List ℕ) (x : RowPlace) → x.left ≡ 0 → records_from n s x ≡ []
 records_none zero s x h = records_full s x
-records_none (suc n) s x h = records_step n s x End (sym (record_none s x h))
+records_none (suc n) s x h = records_step n s x None (sym (record_none s x h))
 
 -- what a reading of a frame and more came to, of the frame and of what follows
 pub record Onward (s : List ℕ) (p : ℕ) (f : Frame) (fs : List Frame) (q : ℕ) : Type 0 where

@@ -1,4 +1,5 @@
 -- The laws of a step of the salvage walk: what the walk and the measure make of it, and what it says of the salvage reading from there on.
+use Rattle.std.specs.Prelude.{Ok, Err}
 use Prim.Native.Nat.{ℕ, ◌+◌, ◌-◌, ◌≤◌, ◌<◌}
 use native.Mathlib.Omega.{arith}
 use mathlib.Core.Path.{◌≡◌, refl, ap, ap₂, ◌∙◌}
@@ -16,7 +17,6 @@ use Rattle.dss_frame.specs.Salvage.{entry, stop}
 use Rattle.dss_laws.proofs.Bounds.{OfWhole, is_whole, Six, walk_six}
 use Rattle.dss_laws.proofs.SalvageLaws.{salvaged_from, salvaged_short, salvaged_dead, salvaged_frame, salvaged_refused, salvaged_refused_end}
 use Rattle.dss_measure.specs.declared.FrameMeasure.{FrameMeasure}
-use Rattle.dss_measure.specs.declared.Measured.TheVariants.{Frame as Gives, Refused as NotMeasured}
 use Rattle.dss_measure.specs.declared.Walked.TheVariants.{Whole, Short, Dead}
 use Rattle.dss_measure.specs.Measure.{measure_of, measured_of, measured_at}
 use Rattle.dss_measure.specs.inner.Walking.{walked_of, walked_at}
@@ -80,14 +80,14 @@ module _ (s : List ℕ) (p : ℕ) where
       picked (leb p (length s)) e (λ t k. of_walk f (frame_walk Salvage s p) refl k) (λ t k. let z : ◌≡◌ {A = ℕ} 0 1 = cc in absurd (omega arith))
 
   -- a measure is a frame's step
-  pub step_frame : (m : FrameMeasure) → measured_at Salvage s p ≡ Gives m → step_at s p ≡ OneFrame m
+  pub step_frame : (m : FrameMeasure) → measured_at Salvage s p ≡ Ok m → step_at s p ≡ OneFrame m
   unfolding step_at
   step_frame m e =
       let w : Measures Salvage s p m = measures Salvage s p m e in
       ap₂ (λ (x : Walk) (y : Read). step_of s p x y) (read_whole w.whole w.reads).is w.reads ∙ ap OneFrame w.same
 
   -- a refusal is stepped over
-  pub step_refused : (r : Refused) → measured_at Salvage s p ≡ NotMeasured r → step_at s p ≡ over_at s p r
+  pub step_refused : (r : Refused) → measured_at Salvage s p ≡ Err r → step_at s p ≡ over_at s p r
   unfolding step_at over_at
   step_refused r e = ap (λ (y : Read). step_of s p (frame_walk Salvage s p) y) (measured_not Salvage s p r e)
 
@@ -120,7 +120,7 @@ module _ (s : List ℕ) (p : ℕ) where
   unfolding measured_at
   is_frame m (whole gs) (frame f) i j k =
       let x : measure_of s p f ≡ m = cc in
-      let w : Measures Salvage s p m = measures Salvage s p m (ap (measured_of s p) j ∙ ap Gives x) in
+      let w : Measures Salvage s p m = measures Salvage s p m (ap (measured_of s p) j ∙ ap Ok x) in
       record { measured = w; onward = salvaged_frame s p gs w.whole i w.reads }
   is_frame m (whole gs) (refused r) i j k =
       picked (ltb (be16 s p) 6) k (λ t z. let y : ◌≡◌ {A = ℕ} 0 1 = cc in absurd (omega arith)) (λ t z. let y : ◌≡◌ {A = ℕ} 0 1 = cc in absurd (omega arith))

@@ -1,4 +1,5 @@
 -- What the salvage reading answers and leaves in cases of document 01: the definitions that its contract cites aren't empty.
+use Rattle.std.specs.Prelude.{Result, Ok, Err}
 use Prim.Native.Nat.{ℕ}
 use mathlib.Core.Path.{◌≡◌, refl}
 use mathlib.Core.Bool.{Bool, true, false}
@@ -13,10 +14,11 @@ use Rattle.dss_frame.specs.Segments.{payload_of, end_of}
 use Rattle.dss_frame.specs.Salvage.{salvaged}
 use Rattle.dss_salvage.specs.declared.SalvageEntry.{SalvageEntry}
 use Rattle.dss_salvage.specs.declared.Entry.TheVariants.{Frame, Refused as Refuses}
-use Rattle.dss_salvage.specs.declared.Salvaged.{Salvaged}
-use Rattle.dss_salvage.specs.declared.Salvaged.TheVariants.{Done, Refused as NotSalvaged}
 use Rattle.dss_salvage.specs.SalvageEntries.{salvaged_bytes, salvaged_row}
 use Rattle.dss_salvage_call.specs.SalvageCall.{entries_fit, given_entries}
+use Rattle.answer.specs.declared.Refused.{Refused}
+use Rattle.dss_salvage.specs.declared.Salvaging.{Salvaging}
+use Rattle.dss_salvage.specs.inner.SalvageMeasure.{counted}
 
 -- ---- the runs
 
@@ -63,7 +65,7 @@ blank = framed 0 Communication true 9 9 9 9 9 9
 
 -- ---- what is answered, and what room and row then hold
 
-answer : List ℕ → ℕ → ℕ → Salvaged
+answer : List ℕ → ℕ → ℕ → Result Salvaging Refused
 answer s size rows = given_entries s size rows (salvaged s)
 
 room_of : List ℕ → List ℕ → ℕ → List ℕ
@@ -73,16 +75,16 @@ row_of : List ℕ → ℕ → List SalvageEntry → List SalvageEntry
 row_of s size row = landed (entries_fit s (salvaged s).entries size (length row)) row (salvaged_row s 0 (salvaged s).entries)
 
 -- P8; a spoilt frame between good ones, and a tail; a length below 6; no bytes; a room or a row too small
-cases : (answer p8 0 2 ≡ Done 2 0 6)
+cases : (answer p8 0 2 ≡ Ok (counted 2 0 6))
     × (row_of p8 0 (blank ∷ blank ∷ []) ≡ framed 6 Reply false 7 0 0 1 0 6 ∷ refusal (InvalidMagic 0) 6 6 ∷ [])
-    × (answer spoilt 2 3 ≡ Done 3 2 28)
+    × (answer spoilt 2 3 ≡ Ok (counted 3 2 28))
     × (room_of spoilt (replicate 3 9) 4 ≡ 0xAA ∷ 0xBB ∷ 9 ∷ [])
     × (row_of spoilt 3 (replicate 4 blank) ≡ framed 6 Reply false 7 0 0 1 0 6 ∷ refusal (InvalidDssType 6) 6 14 ∷ framed 7 Object true 1 0 2 2 14 28 ∷ blank ∷ [])
-    × (answer five 0 2 ≡ Done 2 0 6)
+    × (answer five 0 2 ≡ Ok (counted 2 0 6))
     × (row_of five 0 (blank ∷ blank ∷ []) ≡ framed 6 Reply false 7 0 0 1 0 6 ∷ refusal (LengthTooShort 5) 6 6 ∷ [])
-    × (answer [] 0 0 ≡ Done 0 0 0)
-    × (answer spoilt 1 3 ≡ NotSalvaged (record { why = NoRoom 2 3; place = 0 }))
-    × (answer spoilt 2 2 ≡ NotSalvaged (record { why = NoRoom 2 3; place = 0 }))
+    × (answer [] 0 0 ≡ Ok (counted 0 0 0))
+    × (answer spoilt 1 3 ≡ Err (record { why = NoRoom 2 3; place = 0 }))
+    × (answer spoilt 2 2 ≡ Err (record { why = NoRoom 2 3; place = 0 }))
     × (room_of spoilt (replicate 3 9) 2 ≡ replicate 3 9)
     × (row_of spoilt 1 (replicate 4 blank) ≡ replicate 4 blank)
 unfolding p2 p8 p9 spoilt five framed refusal blank answer room_of row_of salvaged payload_of end_of salvaged_bytes salvaged_row splice

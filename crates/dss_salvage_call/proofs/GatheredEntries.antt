@@ -1,4 +1,5 @@
 -- What the part of the salvage call that needs no row answers, what it leaves in the room, and that the whole call follows.
+use Rattle.std.specs.Prelude.{Result, Ok}
 use Prim.Native.Nat.{ℕ, ◌≤◌, ◌<◌}
 use native.Mathlib.Omega.{arith}
 use mathlib.Core.Path.{◌≡◌, refl, sym, ap, ap₂, ◌∙◌}
@@ -13,8 +14,6 @@ use Rattle.dss_frame.specs.Salvage.{salvaged}
 use Rattle.dss_frame.specs.Salvage as reading
 use Rattle.dss_laws.proofs.SalvageLaws.{salvaged_from, salvaged_from_lem}
 use Rattle.dss_salvage.specs.declared.SalvageEntry.{SalvageEntry}
-use Rattle.dss_salvage.specs.declared.Salvaged.{Salvaged}
-use Rattle.dss_salvage.specs.declared.Salvaged.TheVariants.{Done}
 use Rattle.dss_salvage.specs.declared.Salvaging.{Salvaging}
 use Rattle.dss_salvage.specs.inner.SalvageMeasure.{salvaging_of}
 use Rattle.dss_salvage.specs.SalvageEntries.{salvaged_bytes, salvaged_row}
@@ -24,6 +23,8 @@ use Rattle.wire.proofs.FilledRow.{splice_nothing}
 use Rattle.dss_salvage_row.specs.inner.EntryRows.{placed, entry_records_from}
 use Rattle.dss_salvage_row.proofs.EntryRowLaws.{records_none, records_all}
 use Rattle.dss_salvage_call.specs.inner.SalvageGathered.{bytes_in, not_salvaged}
+use Rattle.answer.specs.declared.Refused.{Refused}
+use Rattle.dss_salvage.specs.inner.SalvageMeasure.{counted}
 
 -- ---- laws
 
@@ -48,8 +49,8 @@ module _ (s room : List ℕ) (rows : ℕ) (x : reading.Salvaged) (k n : ℕ) (co
   given_not e = pick_no _ _ e ∙ ap₂ not_salvaged bytes count
 
   -- 0
-  given_done : fits ≡ true → given_entries s (length room) rows x ≡ Done k n x.tail
-  given_done e = pick_yes _ _ e ∙ ap₂ (λ (a b : ℕ). Done a b x.tail) count bytes
+  given_done : fits ≡ true → given_entries s (length room) rows x ≡ Ok (counted k n x.tail)
+  given_done e = pick_yes _ _ e ∙ ap₂ (λ (a b : ℕ). Ok (counted a b x.tail)) count bytes
 
 module _ (s room : List ℕ) (rows : ℕ) (v : Salvaging) (e : v ≡ salvaging_of s (salvaged s)) where
   counts : length (salvaged s).entries ≡ v.count
@@ -59,13 +60,13 @@ module _ (s room : List ℕ) (rows : ℕ) (v : Salvaging) (e : v ≡ salvaging_o
   sums = sym (ap (λ (w : Salvaging). w.bytes) e)
 
   -- 9, and the room as it was
-  gathers_not : (r : Salvaged) → r ≡ not_salvaged v.bytes v.count → entries_fit s (salvaged s).entries (length room) rows ≡ false → GathersEntries s room rows r room
+  gathers_not : (r : Result Salvaging Refused) → r ≡ not_salvaged v.bytes v.count → entries_fit s (salvaged s).entries (length room) rows ≡ false → GathersEntries s room rows r room
   gathers_not r i t = record { answers = i ∙ sym (given_not s room rows (salvaged s) v.count v.bytes counts sums t); room_is = sym (pick_no _ _ t) }
 
-  pub gathers_short : (r : Salvaged) → r ≡ not_salvaged v.bytes v.count → length room < v.bytes → GathersEntries s room rows r room
+  pub gathers_short : (r : Result Salvaging Refused) → r ≡ not_salvaged v.bytes v.count → length room < v.bytes → GathersEntries s room rows r room
   gathers_short r i h = gathers_not r i (room_short s room rows (salvaged s) v.count v.bytes counts sums h)
 
-  pub gathers_few : (r : Salvaged) → r ≡ not_salvaged v.bytes v.count → rows < v.count → GathersEntries s room rows r room
+  pub gathers_few : (r : Result Salvaging Refused) → r ≡ not_salvaged v.bytes v.count → rows < v.count → GathersEntries s room rows r room
   gathers_few r i h = gathers_not r i (row_short s room rows (salvaged s) v.count v.bytes counts sums h)
 
   -- the payloads have so many bytes
@@ -74,12 +75,12 @@ module _ (s room : List ℕ) (rows : ℕ) (v : Salvaging) (e : v ≡ salvaging_o
   bytes_in_is = sums
 
   -- 0, and the payloads in the room
-  pub gathers_all : (after : List ℕ) → v.bytes ≤ length room → v.count ≤ rows → after ≡ splice room 0 (bytes_in s) → GathersEntries s room rows (Done v.count v.bytes v.tail) after
+  pub gathers_all : (after : List ℕ) → v.bytes ≤ length room → v.count ≤ rows → after ≡ splice room 0 (bytes_in s) → GathersEntries s room rows (Ok (counted v.count v.bytes v.tail)) after
   unfolding bytes_in
   gathers_all after h i a =
       let t : entries_fit s (salvaged s).entries (length room) rows ≡ true = both_fit s room rows (salvaged s) v.count v.bytes counts sums h i in
       record {
-        answers = ap (λ (w : Salvaging). Done v.count v.bytes w.tail) e ∙ sym (given_done s room rows (salvaged s) v.count v.bytes counts sums t);
+        answers = ap (λ (w : Salvaging). Ok (counted v.count v.bytes w.tail)) e ∙ sym (given_done s room rows (salvaged s) v.count v.bytes counts sums t);
         room_is = a ∙ sym (pick_yes _ _ t);
       }
 
@@ -91,8 +92,8 @@ row_after : (s room : List ℕ) (row : List SalvageEntry)
     ≡ landed (entries_fit s (salvaged s).entries (length room) (length row)) row (salvaged_row s 0 (salvaged s).entries)
 row_after s room row =
     by (entries_fit s (salvaged s).entries (length room) (length row))
-    (λ t. ap (λ (x : Salvaged). splice row 0 (entry_records_from (length row) s (starts_at 0 (entries_in x)))) (pick_yes _ _ t) ∙ ap (splice row 0) (all_of t) ∙ sym (pick_yes _ _ t))
-    (λ t. ap (λ (x : Salvaged). splice row 0 (entry_records_from (length row) s (starts_at 0 (entries_in x)))) (pick_no _ _ t)
+    (λ t. ap (λ (x : Result Salvaging Refused). splice row 0 (entry_records_from (length row) s (starts_at 0 (entries_in x)))) (pick_yes _ _ t) ∙ ap (splice row 0) (all_of t) ∙ sym (pick_yes _ _ t))
+    (λ t. ap (λ (x : Result Salvaging Refused). splice row 0 (entry_records_from (length row) s (starts_at 0 (entries_in x)))) (pick_no _ _ t)
     ∙ ap (splice row 0) (records_none (length row) s (starts_at 0 0) refl) ∙ splice_nothing row ∙ sym (pick_no _ _ t))
   where
     all_of : entries_fit s (salvaged s).entries (length room) (length row) ≡ true
@@ -106,7 +107,7 @@ row_after s room row =
         ∙ ap (λ (x : reading.Salvaged). salvaged_row s 0 x.entries) (sym i)
 
 -- the whole call
-pub salvages_is : (s room : List ℕ) (row : List SalvageEntry) (r : Salvaged) (roomAfter : List ℕ) (rowAfter : List SalvageEntry) (n : ℕ)
+pub salvages_is : (s room : List ℕ) (row : List SalvageEntry) (r : Result Salvaging Refused) (roomAfter : List ℕ) (rowAfter : List SalvageEntry) (n : ℕ)
     → GathersEntries s room (length row) r roomAfter → n ≡ entries_in r → rowAfter ≡ splice row 0 (entry_records_from (length row) s (starts_at 0 n))
     → SalvagesRun s room row r roomAfter rowAfter
 salvages_is s room row r roomAfter rowAfter n g c f = record {

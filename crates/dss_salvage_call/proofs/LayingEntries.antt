@@ -1,4 +1,5 @@
 -- Payloads laid end to end while the walk goes on: what is left of them, and the room that they lead to.
+use Rattle.std.specs.Prelude.{Result}
 use Prim.Native.Nat.{ℕ, ◌+◌, ◌-◌, ◌≤◌}
 use native.Mathlib.Omega.{arith}
 use mathlib.Core.Path.{◌≡◌, refl, sym, ap, ap₂, ◌∙◌, subst}
@@ -16,7 +17,6 @@ use Rattle.dss_frame.specs.Reading.{Read, frame, refused, read_at}
 use Rattle.dss_frame.specs.Salvage.{Salvaged, stop}
 use Rattle.dss_laws.proofs.SalvageLaws.{salvaged_from, salvaged_from_lem}
 use Rattle.dss_measure.specs.declared.FrameMeasure.{FrameMeasure}
-use Rattle.dss_measure.specs.declared.Measured.{Measured}
 use Rattle.dss_measure.specs.Measure.{measure_of, measured_of, measured_at}
 use Rattle.dss_take.specs.Take.{taken_of, room_read, Takes}
 use Rattle.dss_salvage.specs.SalvageEntries.{salvaged_bytes}
@@ -123,7 +123,7 @@ module _ (s aim room : List ℕ) (p n : ℕ) (l : LayingEntry s aim room p n) wh
       pick_yes _ _ (le-leb (length (payload_of s f.segments)) (length tail) (omega (arith, tail_long, laying_room (measure_of s p f) w)))
 
   -- the frame's measure, or the refusal: never 9
-  pub taken_measured : (r : Measured) (t : List ℕ) → Takes Salvage s p tail r t → r ≡ measured_at Salvage s p
+  pub taken_measured : (r : Result FrameMeasure Refused) (t : List ℕ) → Takes Salvage s p tail r t → r ≡ measured_at Salvage s p
   unfolding measured_at
   taken_measured r t k = k.answers ∙ of_read (read_at Salvage s p) refl
 
@@ -137,7 +137,7 @@ module _ (s aim room : List ℕ) (p n : ℕ) (l : LayingEntry s aim room p n) wh
       ap (λ (x : List ℕ). take n room ++ (t ++ x)) none ∙ ap (λ (x : List ℕ). take n room ++ x) (append-nil t)
 
   -- a frame was taken
-  pub taken_frame : (r : Measured) (t : List ℕ) (m : FrameMeasure) (w : OnFrame s p m) → Takes Salvage s p tail r t → LayingEntry s aim (back t) m.end (n + m.payload_len)
+  pub taken_frame : (r : Result FrameMeasure Refused) (t : List ℕ) (m : FrameMeasure) (w : OnFrame s p m) → Takes Salvage s p tail r t → LayingEntry s aim (back t) m.end (n + m.payload_len)
   taken_frame r t m w k =
       let b : List ℕ = payload m w in
       laying_frame m w (back t)
@@ -147,13 +147,13 @@ module _ (s aim room : List ℕ) (p n : ℕ) (l : LayingEntry s aim room p n) wh
       ∙ splice_lent room n b)
 
   -- nothing was taken: the room is as it was
-  taken_none : (r : Measured) (t : List ℕ) (x : Refused) → read_at Salvage s p ≡ refused x → Takes Salvage s p tail r t → back t ≡ room
+  taken_none : (r : Result FrameMeasure Refused) (t : List ℕ) (x : Refused) → read_at Salvage s p ≡ refused x → Takes Salvage s p tail r t → back t ≡ room
   taken_none r t x i k =
       back_is t ∙ ap (λ (y : List ℕ). take n room ++ y) (k.room_is ∙ ap (λ (y : Read). room_read s tail y) i ∙ tail_is) ∙ take-append-drop n room
 
   -- and the walk goes on, or ends
-  pub taken_over : (r : Measured) (t : List ℕ) (x y : Refused) (q : ℕ) → read_at Salvage s p ≡ refused x → Takes Salvage s p tail r t → OnOver s p y q → LayingEntry s aim (back t) q n
+  pub taken_over : (r : Result FrameMeasure Refused) (t : List ℕ) (x y : Refused) (q : ℕ) → read_at Salvage s p ≡ refused x → Takes Salvage s p tail r t → OnOver s p y q → LayingEntry s aim (back t) q n
   taken_over r t x y q i k w = subst (λ (z : List ℕ). LayingEntry s aim z q n) (sym (taken_none r t x i k)) (laying_over y q w)
 
-  pub taken_end : (r : Measured) (t : List ℕ) (x : Refused) → read_at Salvage s p ≡ refused x → Takes Salvage s p tail r t → bytes_from s p ≡ [] → back t ≡ aim
+  pub taken_end : (r : Result FrameMeasure Refused) (t : List ℕ) (x : Refused) → read_at Salvage s p ≡ refused x → Takes Salvage s p tail r t → bytes_from s p ≡ [] → back t ≡ aim
   taken_end r t x i k e = taken_none r t x i k ∙ laying_end e

@@ -1,4 +1,5 @@
 -- The laws of the records of a salvage reading's entries.
+use Rattle.std.specs.Prelude.{Option, Some, None}
 use Prim.Native.Nat.{ℕ, zero, suc, ◌+◌, ◌-◌, ◌≤◌}
 use native.Mathlib.Omega.{arith}
 use mathlib.Core.Path.{◌≡◌, refl, sym, ap, ◌∙◌}
@@ -21,15 +22,13 @@ use Rattle.dss_frame.specs.FrameRecords.{read_bytes}
 use Rattle.dss_salvage.specs.SalvageEntries.{entry_at, salvaged_row}
 use Rattle.dss_salvage.specs.inner.SalvageSteps.{step_at}
 use Rattle.dss_salvage.proofs.SalvageStepping.{OnFrame, OnOver, OnLast, on_frame, on_over, on_last, on_end}
-use Rattle.dss_salvage_row.specs.declared.RecordFound.{RecordFound}
-use Rattle.dss_salvage_row.specs.declared.RecordFound.TheVariants.{One, End}
 use Rattle.dss_salvage_row.specs.inner.EntryRows.{placed, entry_found_of, entry_record_at, one_more_entry, entry_records_from}
 
 -- ---- one record
 
 module _ (s : List ℕ) (x : RowPlace) where
   -- no more are to come
-  pub record_none : x.left ≡ 0 → entry_record_at s x ≡ End
+  pub record_none : x.left ≡ 0 → entry_record_at s x ≡ None
   unfolding entry_record_at
   record_none h = pick_yes _ _ (eq-eqb x.left 0 h)
 
@@ -39,12 +38,12 @@ module _ (s : List ℕ) (x : RowPlace) where
   record_step t h e = pick_no _ _ (ne_eqb x.left 0 h) ∙ ap (entry_found_of x) e
 
 -- a place behind a record lies no further into the room than into the run, if that before it does
-pub found_low : (s : List ℕ) (x : RowPlace) (r : SalvageEntry) (next : RowPlace) → x.payload_at ≤ x.at → One r next ≡ entry_record_at s x → next.payload_at ≤ next.at
+pub found_low : (s : List ℕ) (x : RowPlace) (r : SalvageEntry) (next : RowPlace) → x.payload_at ≤ x.at → Some (r, next) ≡ entry_record_at s x → next.payload_at ≤ next.at
 unfolding entry_record_at
 found_low s x r next h e =
     picked (eqb x.left 0) (sym e) (λ t z. let y : ◌≡◌ {A = ℕ} 0 1 = cc in absurd (omega arith)) (λ t z. of_step (step_at s x.at) refl z)
   where
-    of_step : (t : Step) → step_at s x.at ≡ t → entry_found_of x t ≡ One r next → next.payload_at ≤ next.at
+    of_step : (t : Step) → step_at s x.at ≡ t → entry_found_of x t ≡ Some (r, next) → next.payload_at ≤ next.at
     of_step (Frame m) i z =
         let w : OnFrame s x.at m = on_frame s x.at m i in
         let a : x.payload_at + m.payload_len ≡ next.payload_at = cc in
@@ -64,9 +63,9 @@ found_low s x r next h e =
 -- ---- a row of them
 
 -- what is found first comes first
-pub records_step : (n : ℕ) (s : List ℕ) (x : RowPlace) (f : RecordFound) → f ≡ entry_record_at s x → entry_records_from (suc n) s x ≡ one_more_entry f (entry_records_from n s)
+pub records_step : (n : ℕ) (s : List ℕ) (x : RowPlace) (f : Option (SalvageEntry × RowPlace)) → f ≡ entry_record_at s x → entry_records_from (suc n) s x ≡ one_more_entry f (entry_records_from n s)
 unfolding entry_records_from
-records_step n s x f e = ap (λ (g : RecordFound). one_more_entry g (λ next. entry_records_from n s next)) (sym e)
+records_step n s x f e = ap (λ (g : Option (SalvageEntry × RowPlace)). one_more_entry g (λ next. entry_records_from n s next)) (sym e)
 
 -- a row with no place left
 pub records_full : (s : List ℕ) (x : RowPlace) → entry_records_from 0 s x ≡ []
@@ -76,7 +75,7 @@ records_full s x = refl
 -- none are to come
 pub records_none : (n : ℕ) (s : List ℕ) (x : RowPlace) → x.left ≡ 0 → entry_records_from n s x ≡ []
 records_none zero s x h = records_full s x
-records_none (suc n) s x h = records_step n s x End (sym (record_none s x h))
+records_none (suc n) s x h = records_step n s x None (sym (record_none s x h))
 
 -- ---- as many as there are entries: all of them
 
@@ -100,12 +99,12 @@ module _ (s : List ℕ) (p a n : ℕ) where
 
   -- one entry, and those behind it
   one_listed : (e : ℕ) (r : Read) (y : Salvaged) (next : RowPlace)
-      → entry_record_at s (placed p a (suc (length y.entries))) ≡ One (entry_at s a p e r) next
+      → entry_record_at s (placed p a (suc (length y.entries))) ≡ Some (entry_at s a p e r, next)
       → entry_records_from n s next ≡ salvaged_row s (a + length (read_bytes s r)) y.entries
       → Listed (entry p e r y)
   unfolding salvaged_row
   one_listed e r y next i h =
-      records_step n s (placed p a (suc (length y.entries))) (One (entry_at s a p e r) next) (sym i) ∙ ap (λ (l : List SalvageEntry). entry_at s a p e r ∷ l) h
+      records_step n s (placed p a (suc (length y.entries))) (Some (entry_at s a p e r, next)) (sym i) ∙ ap (λ (l : List SalvageEntry). entry_at s a p e r ∷ l) h
 
   -- where all that follow are listed, wherever they start
   abbrev Onward : Type 0
@@ -124,7 +123,7 @@ module _ (s : List ℕ) (p a n : ℕ) where
       (one_listed q (frame f) (salvaged_from s q) (placed q b k)
       (record_step s (placed p a (suc k)) (Frame m) (λ x. omega arith) i
       ∙ ap (λ (x : FrameMeasure). entry_found_of (placed p a (suc k)) (Frame x)) (sym w.measured.same)
-      ∙ ap (λ (j : ℕ). One (entry_at s a p q (frame f)) (placed q b j)) z)
+      ∙ ap (λ (j : ℕ). Some (entry_at s a p q (frame f), placed q b j)) z)
       (go q b (omega arith)))
   by_step (Over r q) i h go =
       let w : OnOver s p r q = on_over s p r q i in
@@ -135,8 +134,8 @@ module _ (s : List ℕ) (p a n : ℕ) where
       listed (entry p q (refused r) (salvaged_from s q)) w.onward
       (one_listed q (refused r) (salvaged_from s q) (placed q (a + 0) k)
       (record_step s (placed p a (suc k)) (Over r q) (λ x. omega arith) i
-      ∙ ap (λ (j : ℕ). One (entry_at s a p q (refused r)) (placed q a j)) z
-      ∙ ap (λ (b : ℕ). One (entry_at s a p q (refused r)) (placed q b k)) y)
+      ∙ ap (λ (j : ℕ). Some (entry_at s a p q (refused r), placed q a j)) z
+      ∙ ap (λ (b : ℕ). Some (entry_at s a p q (refused r), placed q b k)) y)
       (go q (a + 0) (omega arith)))
   by_step (Last r) i h go =
       let w : OnLast s p r = on_last s p r i in

@@ -1,4 +1,5 @@
 -- What taking answers and leaves in the room in cases of document 01: the definitions that the contract cites aren't empty.
+use Rattle.std.specs.Prelude.{Result, Err}
 use Prim.Native.Nat.{ℕ}
 use mathlib.Core.Path.{◌≡◌, refl}
 use mathlib.Core.List.{List, [], ◌∷◌, ◌++◌}
@@ -9,11 +10,11 @@ use Rattle.dss_frame.specs.declared.Rules.{Rules}
 use Rattle.dss_frame.specs.declared.Rules.TheVariants.{Reader, Salvage}
 use Rattle.dss_frame.specs.Segments.{payload_of}
 use Rattle.dss_frame.specs.Reading.{read_at}
-use Rattle.dss_measure.specs.declared.Measured.{Measured}
-use Rattle.dss_measure.specs.declared.Measured.TheVariants.{Refused}
 use Rattle.dss_take.specs.Take.{taken_of, room_read}
+use Rattle.dss_measure.specs.declared.FrameMeasure.{FrameMeasure}
+use Rattle.answer.specs.declared.Refused.{Refused}
 
-answer : Rules → List ℕ → List ℕ → Measured
+answer : Rules → List ℕ → List ℕ → Result FrameMeasure Refused
 answer rules s room = taken_of s 0 (length room) (read_at rules s 0)
 
 after : Rules → List ℕ → List ℕ → List ℕ
@@ -45,12 +46,12 @@ cases : (after Reader p9 (replicate 3 9) ≡ 0xAA ∷ 0xBB ∷ 9 ∷ [])
     × (after Reader p9 (9 ∷ []) ≡ 9 ∷ [])
     × (after Reader p12 (replicate 6 9) ≡ 0x80 ∷ 0x04 ∷ 0x24 ∷ 0x1B ∷ 0xC1 ∷ 9 ∷ [])
     × (after Reader p12 (replicate 4 9) ≡ replicate 4 9)
-    × (answer Reader p12 (replicate 4 9) ≡ Refused (record { why = NoRoom 5 0; place = 0 }))
+    × (answer Reader p12 (replicate 4 9) ≡ Err (record { why = NoRoom 5 0; place = 0 }))
     × (after Reader three (replicate 7 9) ≡ 0x80 ∷ 0x04 ∷ 0x24 ∷ 0x7F ∷ 0xFE ∷ 0xC1 ∷ 9 ∷ [])
     × (after Reader p8 (9 ∷ []) ≡ 9 ∷ [])
-    × (answer Reader p8 (9 ∷ []) ≡ Refused (record { why = InvalidMagic 0; place = 6 }))
+    × (answer Reader p8 (9 ∷ []) ≡ Err (record { why = InvalidMagic 0; place = 6 }))
     × (after Salvage p8 (9 ∷ []) ≡ 9 ∷ [])
     × (after Reader large (replicate 32763 9) ≡ replicate 32761 5 ++ (0xC1 ∷ 9 ∷ []))
-    × (answer Reader large (replicate 32761 9) ≡ Refused (record { why = NoRoom 32762 0; place = 0 }))
+    × (answer Reader large (replicate 32761 9) ≡ Err (record { why = NoRoom 32762 0; place = 0 }))
 unfolding answer after p8 p9 p12 three large read_at payload_of laid splice
 cases = (refl, refl, refl, refl, refl, refl, refl, refl, refl, refl, refl)

@@ -1,4 +1,5 @@
 -- The laws of what taking a frame answers, and of what the room then holds: a refusal, 9, and the frame.
+use Rattle.std.specs.Prelude.{Ok, Err}
 use Prim.Native.Nat.{ℕ, ◌≤◌, ◌<◌}
 use native.Mathlib.Omega.{arith}
 use mathlib.Core.Path.{◌≡◌, sym, ap, ◌∙◌}
@@ -14,7 +15,6 @@ use Rattle.dss_frame.specs.declared.Rules.{Rules}
 use Rattle.dss_frame.specs.Segments.{payload_of}
 use Rattle.dss_frame.specs.Reading.{Frame, frame, refused, read_at}
 use Rattle.dss_measure.specs.declared.FrameMeasure.{FrameMeasure}
-use Rattle.dss_measure.specs.declared.Measured.TheVariants.{Frame as Gives, Refused as NotMeasured}
 use Rattle.dss_measure.specs.Measure.{measured_at}
 use Rattle.dss_measure.proofs.Measures.{Measures, measured_not}
 use Rattle.dss_take.specs.Take.{taken_of, room_read, payload_at, Takes}
@@ -23,7 +23,7 @@ use Rattle.dss_take.proofs.PayloadLaws.{payload_is}
 
 module _ (rules : Rules) (s : List ℕ) (p : ℕ) where
   -- any refusal but 9
-  pub takes_refusal : (room : List ℕ) (x : Refused) → measured_at rules s p ≡ NotMeasured x → Takes rules s p room (NotMeasured x) room
+  pub takes_refusal : (room : List ℕ) (x : Refused) → measured_at rules s p ≡ Err x → Takes rules s p room (Err x) room
   takes_refusal room x e =
       let k : read_at rules s p ≡ refused x = measured_not rules s p x e in
       record { answers = sym (ap (taken_of s p (length room)) k); room_is = sym (ap (room_read s room) k) }
@@ -48,14 +48,14 @@ module _ {rules : Rules} {s : List ℕ} {p : ℕ} {m : FrameMeasure} (w : Measur
 
   module _ {room : List ℕ} where
     -- 9
-    pub takes_short : length room < m.payload_len → Takes rules s p room (NotMeasured (no_room p m.payload_len 0)) room
+    pub takes_short : length room < m.payload_len → Takes rules s p room (Err (no_room p m.payload_len 0)) room
     takes_short h =
         record {
           answers =
               sym
               (ap (taken_of s p (length room)) w.reads
               ∙ pick_no _ _ (lt-leb (length payload) (length room) (omega (arith, long)))
-              ∙ ap (λ (n : ℕ). NotMeasured (no_room p n 0)) long);
+              ∙ ap (λ (n : ℕ). Err (no_room p n 0)) long);
           room_is = sym (ap (room_read s room) w.reads ∙ laid_kept room 0 payload (omega (arith, long)));
         }
 
@@ -64,7 +64,7 @@ module _ {rules : Rules} {s : List ℕ} {p : ℕ} {m : FrameMeasure} (w : Measur
       takes_fits = record { read = w.whole; is = w.reads; fits = omega (arith, long) }
 
       -- the frame
-      pub takes_frame : {after : List ℕ} → after ≡ splice room 0 (payload_at rules s p) → Takes rules s p room (Gives m) after
+      pub takes_frame : {after : List ℕ} → after ≡ splice room 0 (payload_at rules s p) → Takes rules s p room (Ok m) after
       unfolding takes_fits
       takes_frame k =
           record {
@@ -72,7 +72,7 @@ module _ {rules : Rules} {s : List ℕ} {p : ℕ} {m : FrameMeasure} (w : Measur
                 sym
                 (ap (taken_of s p (length room)) w.reads
                 ∙ pick_yes _ _ (le-leb (length payload) (length room) (omega (arith, long)))
-                ∙ ap Gives w.same);
+                ∙ ap Ok w.same);
             room_is =
                 k ∙ ap (splice room 0) (payload_is takes_fits)
                 ∙ sym (ap (room_read s room) w.reads ∙ laid_fits room 0 payload (omega (arith, long)));

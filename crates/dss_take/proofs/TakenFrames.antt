@@ -1,4 +1,5 @@
 -- What a frame that is read was made of: its own segments are whole, its head is found, and then it is those or what it absorbs.
+use Rattle.std.specs.Prelude.{Result, Ok, Err}
 use Prim.Native.Nat.{ℕ, ◌+◌, ◌-◌, ◌≤◌}
 use native.Mathlib.Omega.{arith}
 use mathlib.Core.Path.{◌≡◌, refl, sym, ap, ◌∙◌}
@@ -11,8 +12,6 @@ use Rattle.wire.proofs.WireLaws.{picked, true_false, pick_yes, pick_no}
 use Rattle.answer.specs.declared.Refused.{Refused}
 use Rattle.dss_head.specs.Heads.{head_at}
 use Rattle.dss_head.specs.declared.DssHeader.{DssHeader}
-use Rattle.dss_head.specs.declared.HeadFound.{HeadFound}
-use Rattle.dss_head.specs.declared.HeadFound.TheVariants.{Head, Refused as NoHead}
 use Rattle.dss_frame.specs.declared.Rules.{Rules}
 use Rattle.dss_frame.specs.Segments.{Segment, Walk, whole, short, dead, behind, first, continuations, frame_walk}
 use Rattle.dss_frame.specs.Reading.{Frame, frame, refused, read_at, read_walk, read_head, absorb}
@@ -46,9 +45,9 @@ record Found (rules : Rules) (s : List ℕ) (p : ℕ) (f : Frame) : Type 0 where
   reads : pick (eqb (be16 s p) 65535) (frame (record { head = head; segments = segments })) (absorb rules s p head segments) ≡ frame f
 
 module _ (rules : Rules) (s : List ℕ) (p : ℕ) (f : Frame) where
-  by_head : (gs : List Segment) → frame_walk rules s p ≡ whole gs → (h : HeadFound) → read_head rules s p gs h ≡ frame f → Found rules s p f
-  by_head gs w (NoHead r) e = absurd (not_frame r f e)
-  by_head gs w (Head h) e =
+  by_head : (gs : List Segment) → frame_walk rules s p ≡ whole gs → (h : Result DssHeader Refused) → read_head rules s p gs h ≡ frame f → Found rules s p f
+  by_head gs w (Err r) e = absurd (not_frame r f e)
+  by_head gs w (Ok h) e =
       picked (ltb (be16 s p) 6) e (λ t k. absurd (not_frame _ f k))
       (λ t k. record { head = h; segments = gs; walk = w; six = ltb-false _ _ t; reads = k })
 

@@ -1,4 +1,5 @@
 -- The laws of taking a frame that absorbs what follows it, one for each answer of a look.
+use Rattle.std.specs.Prelude.{Result, Ok, Err}
 use Prim.Native.Nat.{ℕ, zero, suc, ◌+◌, ◌-◌, ◌≤◌, ◌<◌}
 use native.Mathlib.Nat.{add-zero}
 use native.Mathlib.Omega.{arith}
@@ -15,8 +16,6 @@ use Rattle.answer.specs.declared.Refused.{Refused}
 use Rattle.dss_head.specs.Heads.{head_at}
 use Rattle.dss_head.specs.declared.DssType.{DssType}
 use Rattle.dss_head.specs.declared.DssHeader.{DssHeader}
-use Rattle.dss_head.specs.declared.HeadFound.{HeadFound}
-use Rattle.dss_head.specs.declared.HeadFound.TheVariants.{Head, Refused as NoHead}
 use Rattle.dss_frame.specs.declared.Rules.{Rules}
 use Rattle.dss_frame.specs.declared.Rules.TheVariants.{Reader, Salvage}
 use Rattle.dss_frame.specs.Segments.{Segment, first, payload_of, end_of}
@@ -26,7 +25,6 @@ use Rattle.dss_laws.proofs.Ends.{end_snoc, payload_append, payload_one}
 use Rattle.dss_laws.proofs.Looking.{absorb_absorbs}
 use Rattle.dss_measure.specs.declared.FrameMeasure.{FrameMeasure}
 use Rattle.dss_measure.specs.declared.Look.TheVariants.{Finished, Absorbs, Refuses}
-use Rattle.dss_measure.specs.declared.Measured.TheVariants.{Frame as Gives, Refused as NotMeasured}
 use Rattle.dss_measure.specs.inner.Walking.{looked_of, payload_so_far}
 use Rattle.dss_measure.specs.Measure.{measure_of, measured_of}
 use Rattle.dss_measure.proofs.Absorbing.{behind_at, Absorbing, absorbing_finished, absorbing_refused, absorbing_there}
@@ -47,9 +45,9 @@ here_refusal : (rules : Rules) (q : ℕ) (r : Refused) → Here q (refusal rules
 here_refusal Reader q r = tt
 here_refusal Salvage q r = tt
 
-here_at : (rules : Rules) (s : List ℕ) (t : DssType) (x : Bool) (q : ℕ) (f : HeadFound) → Here q (look_at rules s t x q f)
-here_at rules s t x q (NoHead r) = here_refusal rules q r
-here_at rules s t x q (Head h) =
+here_at : (rules : Rules) (s : List ℕ) (t : DssType) (x : Bool) (q : ℕ) (f : Result DssHeader Refused) → Here q (look_at rules s t x q f)
+here_at rules s t x q (Err r) = here_refusal rules q r
+here_at rules s t x q (Ok h) =
     pick_by (Here q) (eqb (be16 s q) 65535) _ _ (λ _. tt)
     (λ _. pick_by (Here q) h.flags.same_correlation _ _
     (λ _. pick_by (Here q) (follows t h.dss_type) _ _
@@ -176,14 +174,14 @@ module _ {rules : Rules} {s : List ℕ} {p : ℕ} {room : List ℕ} (v : FitsRoo
     pub taking_finished : looked_of (look rules s t x q) ≡ Finished → fill ≡ length (payload_at rules s p)
     taking_finished l =
         let n : FrameMeasure = record { header = w.head; payload_len = length (payload_of s w.segments); segments = length w.segments; end = q } in
-        let m : Gives (measure_of s p v.read) ≡ Gives n = sym (ap (measured_of s p) v.is) ∙ absorbing_finished rules s p (read_at rules s p) _ _ _ _ x measuring extended (looked ∙ l) in
+        let m : Ok (measure_of s p v.read) ≡ Ok n = sym (ap (measured_of s p) v.is) ∙ absorbing_finished rules s p (read_at rules s p) _ _ _ _ x measuring extended (looked ∙ l) in
         let z : measure_of s p v.read ≡ n = cc in
         w.size ∙ sym (ap length (payload_is v) ∙ ap (λ (y : FrameMeasure). y.payload_len) z)
 
     -- "refused": it isn't
     pub taking_refused : (r : Refused) → looked_of (look rules s t x q) ≡ Refuses r → ⊥
     taking_refused r l =
-        let m : Gives (measure_of s p v.read) ≡ NotMeasured r = sym (ap (measured_of s p) v.is) ∙ absorbing_refused rules s p (read_at rules s p) _ _ _ _ x measuring extended r (looked ∙ l) in
+        let m : Ok (measure_of s p v.read) ≡ Err r = sym (ap (measured_of s p) v.is) ∙ absorbing_refused rules s p (read_at rules s p) _ _ _ _ x measuring extended r (looked ∙ l) in
         let z : ◌≡◌ {A = ℕ} 0 1 = cc in omega arith
 
     -- "absorbs": what it adds comes next, and then what is read on from there

@@ -1,4 +1,5 @@
 -- The laws that the writer's proofs rest on: chunks laid one behind the other, and what room there is for a frame.
+use Rattle.std.specs.Prelude.{Result, Ok, Err}
 use Prim.Native.Nat.{ℕ, ◌+◌, ◌-◌, ◌^◌, ◌≤◌, ◌<◌}
 use native.Mathlib.Nat.{zero-add, sub-zero}
 use native.Mathlib.Omega.{arith}
@@ -13,15 +14,11 @@ use Rattle.wire.proofs.WireLaws.{pick_yes, pick_no, picked, by}
 use Rattle.wire.proofs.Splicing.{splice_none, splice_length, laid_fits, laid_kept}
 use Rattle.answer.specs.Rooms.{capped, room_for, laid_at_start, Lays}
 use Rattle.answer.specs.declared.Refused.{Refused}
-use Rattle.answer.specs.declared.RoomFor.TheVariants.{Enough, Refused as Refuses}
-use Rattle.answer.specs.declared.Laid.TheVariants.{Bytes}
 use Rattle.dss_head.specs.Heads.{head_bytes}
 use Rattle.dss_frame.specs.Written.{Sent, head_of, chunks, written, frame_size}
 use Rattle.dss_laws.proofs.ChunkLaws.{chunks_last, chunks_more}
 use Rattle.dss_laws.proofs.WritingLaws.{written_single, written_several, written_size}
 use Rattle.dss_writer.specs.declared.DssWriter.{DssWriter}
-use Rattle.dss_writer.specs.declared.Wrote.{Wrote}
-use Rattle.dss_writer.specs.declared.Wrote.TheVariants.{Refused as NotWritten}
 use Rattle.dss_writer.specs.Writer.{fresh_writer, wrote_by, wrote, Writes}
 use Rattle.wire.proofs.LentParts.{tail, back, tail_drop, lent, next}
 use Rattle.dss_writer.specs.inner.AsLaid.{as_laid}
@@ -160,7 +157,7 @@ pub record FrameFits (w : DssWriter) (f : Sent) (room : List ℕ) : Type 0 where
 
 module _ (w : DssWriter) (f : Sent) (room : List ℕ) (n : ℕ) (size : n ≡ length (written f)) where
   -- where there is room
-  pub fits : room_for w.fill (length room) n ≡ Enough → FrameFits w f room
+  pub fits : room_for w.fill (length room) n ≡ Ok tt → FrameFits w f room
   fits e =
       picked (leb w.fill (length room)) e
       (λ t k. let a : w.fill ≤ length room = leb-true _ _ t in
@@ -168,7 +165,7 @@ module _ (w : DssWriter) (f : Sent) (room : List ℕ) (n : ℕ) (size : n ≡ le
       (λ _ k. let z : ◌≡◌ {A = ℕ} 0 1 = cc in absurd (omega arith)))
       (λ _ k. let z : ◌≡◌ {A = ℕ} 0 1 = cc in absurd (omega arith))
 
-  pub writes_done : (r : Wrote) (after : List ℕ) → r ≡ wrote_by w n Enough → room_for w.fill (length room) n ≡ Enough → after ≡ splice room w.fill (written f)
+  pub writes_done : (r : Result DssWriter Refused) (after : List ℕ) → r ≡ wrote_by w n (Ok tt) → room_for w.fill (length room) n ≡ Ok tt → after ≡ splice room w.fill (written f)
       → Writes w f room r after
   writes_done r after d e k = record {
     answers = d ∙ ap (wrote_by w n) (sym e) ∙ ap (wrote w (length room)) size;
@@ -176,14 +173,14 @@ module _ (w : DssWriter) (f : Sent) (room : List ℕ) (n : ℕ) (size : n ≡ le
   }
 
   -- where there isn't
-  short : (r : Refused) → room_for w.fill (length room) n ≡ Refuses r → length room < w.fill + n
+  short : (r : Refused) → room_for w.fill (length room) n ≡ Err r → length room < w.fill + n
   short r e =
       picked (leb w.fill (length room)) e
       (λ t k. picked (leb n (length room - w.fill)) k (λ _ k. let z : ◌≡◌ {A = ℕ} 0 1 = cc in absurd (omega arith))
       (λ u _. let a : w.fill ≤ length room = leb-true _ _ t in let b : length room - w.fill < n = leb-false _ _ u in omega arith))
       (λ t _. let a : length room < w.fill = leb-false _ _ t in omega arith)
 
-  pub writes_refused : (r : Refused) → room_for w.fill (length room) n ≡ Refuses r → Writes w f room (NotWritten r) room
+  pub writes_refused : (r : Refused) → room_for w.fill (length room) n ≡ Err r → Writes w f room (Err r) room
   writes_refused r e = record {
     answers = ap (wrote_by w n) (sym e) ∙ ap (wrote w (length room)) size;
     room_is = sym (laid_kept room w.fill (written f) (omega (arith, short r e)));
@@ -195,11 +192,11 @@ fresh_laid : (correlation size n : ℕ) → as_laid (wrote (fresh_writer correla
 fresh_laid correlation size n =
     ap (λ r. as_laid (wrote_by (fresh_writer correlation) n r)) (pick_yes _ _ (le-leb 0 size (omega arith)))
     ∙ by (leb n size)
-    (λ t. ap (λ r. as_laid (wrote_by (fresh_writer correlation) n r)) (pick_yes _ _ (ap (leb n) (sub-zero size) ∙ t)) ∙ ap Bytes (zero-add n) ∙ sym (pick_yes _ _ t))
+    (λ t. ap (λ r. as_laid (wrote_by (fresh_writer correlation) n r)) (pick_yes _ _ (ap (leb n) (sub-zero size) ∙ t)) ∙ ap Ok (zero-add n) ∙ sym (pick_yes _ _ t))
     (λ t. ap (λ r. as_laid (wrote_by (fresh_writer correlation) n r)) (pick_no _ _ (ap (leb n) (sub-zero size) ∙ t)) ∙ sym (pick_no _ _ t))
 
 -- a frame of the writer's correlation, from a fresh writer
-pub writes_lays : (correlation : ℕ) (frame : ℕ → Sent) (room : List ℕ) (w : DssWriter) (r : Wrote) (after : List ℕ) → w ≡ fresh_writer correlation
+pub writes_lays : (correlation : ℕ) (frame : ℕ → Sent) (room : List ℕ) (w : DssWriter) (r : Result DssWriter Refused) (after : List ℕ) → w ≡ fresh_writer correlation
     → Writes w (frame w.correlation_id) room r after → Lays (written (frame correlation)) room (as_laid r) after
 writes_lays correlation frame room w r after e p = record {
   answers =

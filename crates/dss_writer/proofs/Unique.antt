@@ -1,5 +1,6 @@
 -- Any two outcomes that a contract of this crate allows are equal: the answer, the state that is handed back, and every byte
 -- of the room. Each statement names the contract, and doesn't write it again.
+use Rattle.std.specs.Prelude.{Result}
 use Prim.Native.Nat.{ℕ}
 use mathlib.Core.Path.{◌≡◌, refl, sym, ◌∙◌, ap}
 use mathlib.Core.Bool.{Bool}
@@ -11,11 +12,9 @@ use denote.Ref.{Bor, MutBor, at_last}
 use Rattle.wire.specs.Bytes.{pick}
 use Rattle.wire.specs.Parts.{start_at}
 use Rattle.answer.specs.Rooms.{Lays}
-use Rattle.answer.specs.declared.Laid.{Laid}
 use Rattle.dss_head.specs.declared.DssType.{DssType}
 use Rattle.dss_frame.specs.Written.{Sent}
 use Rattle.dss_writer.specs.declared.DssWriter.{DssWriter}
-use Rattle.dss_writer.specs.declared.Wrote.{Wrote}
 use Rattle.dss_writer.specs.Writer.{filled, FilledAt, Writes}
 use Rattle.dss_writer.proofs.frame_size.Reads as frame_size
 use Rattle.dss_writer.proofs.DssWriter.new.Reads as new
@@ -33,13 +32,14 @@ use Rattle.dss_writer.proofs.DssWriter.write_object_same_corr.Reads as write_obj
 use Rattle.dss_writer.proofs.DssWriter.write_request_next_same_corr.Reads as write_request_next_same_corr
 use Rattle.dss_writer.proofs.build_dss_request.Reads as build_dss_request
 use Rattle.dss_writer.proofs.build_dss_object.Reads as build_dss_object
+use Rattle.answer.specs.declared.Refused.{Refused}
 
 -- ---- the records that the contracts cite
 
-writes_one : {w : DssWriter} {f : Sent} {room : List ℕ} {r r' : Wrote} {l l' : List ℕ} → Writes w f room r l → Writes w f room r' l' → (r ≡ r') × (l ≡ l')
+writes_one : {w : DssWriter} {f : Sent} {room : List ℕ} {r r' : Result DssWriter Refused} {l l' : List ℕ} → Writes w f room r l → Writes w f room r' l' → (r ≡ r') × (l ≡ l')
 writes_one p q = (p.answers ∙ sym q.answers, p.room_is ∙ sym q.room_is)
 
-lays_one : {b room : List ℕ} {r r' : Laid} {l l' : List ℕ} → Lays b room r l → Lays b room r' l' → (r ≡ r') × (l ≡ l')
+lays_one : {b room : List ℕ} {r r' : Result ℕ Refused} {l l' : List ℕ} → Lays b room r l → Lays b room r' l' → (r ≡ r') × (l ≡ l')
 lays_one p q = (p.answers ∙ sym q.answers, p.room_is ∙ sym q.room_is)
 
 -- ---- the size and the state
@@ -85,7 +85,7 @@ next_correlation_id_one κs w r r' p q = p ∙ sym q
 
 -- ---- writing a frame
 
-module _ (κs : Lfts 2) (w : DssWriter) (chained : Bool) (payload : Bor (List ℕ)) (room : MutBor (List ℕ)) (r r' : Wrote) (l l' : List ℕ) where
+module _ (κs : Lfts 2) (w : DssWriter) (chained : Bool) (payload : Bor (List ℕ)) (room : MutBor (List ℕ)) (r r' : Result DssWriter Refused) (l l' : List ℕ) where
   pub write_dss_full_one : (t : DssType) (same : Bool)
       → write_dss_full.Post κs (w, (t, (chained, (same, (payload, (room, tt)))))) r (w, (t, (chained, (same, (payload, (at_last room l, tt))))))
       → write_dss_full.Post κs (w, (t, (chained, (same, (payload, (room, tt)))))) r' (w, (t, (chained, (same, (payload, (at_last room l', tt))))))
@@ -125,7 +125,7 @@ module _ (κs : Lfts 2) (w : DssWriter) (chained : Bool) (payload : Bor (List �
 
 -- ---- one frame at the room's first byte
 
-module _ (κs : Lfts 2) (id : ℕ) (chained : Bool) (payload : Bor (List ℕ)) (room : MutBor (List ℕ)) (r r' : Laid) (l l' : List ℕ) where
+module _ (κs : Lfts 2) (id : ℕ) (chained : Bool) (payload : Bor (List ℕ)) (room : MutBor (List ℕ)) (r r' : Result ℕ Refused) (l l' : List ℕ) where
   pub build_dss_request_one : build_dss_request.Post κs (id, (chained, (payload, (room, tt)))) r (id, (chained, (payload, (at_last room l, tt))))
       → build_dss_request.Post κs (id, (chained, (payload, (room, tt)))) r' (id, (chained, (payload, (at_last room l', tt))))
       → (r ≡ r') × (l ≡ l')

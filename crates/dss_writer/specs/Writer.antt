@@ -1,16 +1,13 @@
 -- The writer's state, its calls' answers, and what the lent room holds after each: document 01, module 2.
-use Rattle.std.specs.Prelude.{ℕ, ◌+◌, ◌%◌, ◌≡◌, Bool, List, [], leb, length, take}
+use Rattle.std.specs.Prelude.{ℕ, ◌+◌, ◌%◌, ◌≡◌, Bool, List, [], leb, length, take, Result, Ok, Err}
 use Rattle.std.specs.Borrow.{Bor}
 use Rattle.wire.specs.Bytes.{pick, laid}
 use Rattle.wire.specs.Parts.{start_at}
 use Rattle.answer.specs.Rooms.{room_for}
-use Rattle.answer.specs.declared.RoomFor.{RoomFor}
-use Rattle.answer.specs.declared.RoomFor.TheVariants.{Enough, Refused as Refuses}
 use Rattle.dss_head.specs.declared.DssType.{DssType}
 use Rattle.dss_frame.specs.Written.{Sent, written}
 use Rattle.dss_writer.specs.declared.DssWriter.{DssWriter}
-use Rattle.dss_writer.specs.declared.Wrote.{Wrote}
-use Rattle.dss_writer.specs.declared.Wrote.TheVariants.{Done, Refused as NotWritten}
+use Rattle.answer.specs.declared.Refused.{Refused}
 
 -- ---- the state
 
@@ -43,16 +40,16 @@ pub record FilledAt (room : Bor (List ℕ)) (fill : ℕ) (r : Bor (List ℕ)) : 
 abbrev pub sent : ℕ → DssType → Bool → Bool → List ℕ → Sent
 sent correlation t chained same payload = record { type = t; chained = chained; same = same; correlation = correlation; payload = payload }
 
-abbrev pub wrote_by : DssWriter → ℕ → RoomFor → Wrote
-wrote_by w n Enough = Done (record { correlation_id = w.correlation_id; fill = w.fill + n })
-wrote_by w n (Refuses r) = NotWritten r
+abbrev pub wrote_by : DssWriter → ℕ → Result (Unit {0}) Refused → Result DssWriter Refused
+wrote_by w n (Ok tt) = Ok (record { correlation_id = w.correlation_id; fill = w.fill + n })
+wrote_by w n (Err r) = Err r
 
 -- "Order: 10, 9"
-abbrev pub wrote : DssWriter → ℕ → ℕ → Wrote
+abbrev pub wrote : DssWriter → ℕ → ℕ → Result DssWriter Refused
 wrote w size n = wrote_by w n (room_for w.fill size n)
 
 -- "Frames are laid into the lent room from the fill mark onward"
-pub record Writes (w : DssWriter) (f : Sent) (room : List ℕ) (r : Wrote) (after : List ℕ) : Type 0 where
+pub record Writes (w : DssWriter) (f : Sent) (room : List ℕ) (r : Result DssWriter Refused) (after : List ℕ) : Type 0 where
   pub answers : r ≡ wrote w (length room) (length (written f))
   pub room_is : after ≡ laid room w.fill (written f)
 

@@ -2,10 +2,9 @@
 // and the room is lent to each call.
 #![tactic(auto)]
 
-ghost use Rattle.std.specs.Prelude.{◌+◌, ◌^◌, ◌≤◌, ◌<◌, ◌≡◌, true, false, [], ◌++◌, length};
+ghost use Rattle.std.specs.Prelude.{◌+◌, ◌^◌, ◌≤◌, ◌<◌, ◌≡◌, true, false, [], ◌++◌, length, Ok};
 ghost use Rattle.wire.specs.Bytes.{two, splice, laid};
 ghost use Rattle.answer.specs.Rooms.{capped, Lays};
-ghost use Rattle.answer.specs.declared.RoomFor.TheVariants.{Enough as enough};
 ghost use Rattle.dss_head.specs.declared.DssType.TheVariants.{Request as asRequest, Object as asObject, NoReply as asNoReply};
 ghost use Rattle.dss_head.specs.Heads.{head_bytes};
 ghost use Rattle.dss_frame.specs.Written.{head_of, chunks, written, frame_size};
@@ -194,7 +193,7 @@ impl DssWriter {
     // The writer after a frame of this size.
     pub(crate) fn moved(self, size: usize) -> Wrote
         requires { self.fill + size < 2 ^ 64 }
-        ensures { result ≡ wrote_by self size enough }
+        ensures { result ≡ wrote_by self size (Ok tt) }
     {
         Wrote::Done(DssWriter {
             correlation_id: self.correlation_id,

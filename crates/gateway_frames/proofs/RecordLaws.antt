@@ -1,4 +1,5 @@
 -- The records' words laid into the row one after the other: what is left of them, and that the row they lead to is the definition's.
+use Rattle.std.specs.Prelude.{Result, Ok, Err, Some, None}
 use Prim.Native.Nat.{ℕ, suc, ◌+◌, ◌*◌, ◌-◌, ◌≤◌, ◌<◌}
 use native.Mathlib.Omega.{arith}
 use mathlib.Core.Path.{◌≡◌, refl, sym, ap, ◌∙◌, subst}
@@ -17,15 +18,11 @@ use Rattle.dss_frame.specs.FrameRecords.{payloads_of}
 use Rattle.dss_frame.specs.declared.DssFrame.{DssFrame}
 use Rattle.dss_frame.specs.declared.Rules.TheVariants.{Reader}
 use Rattle.dss_measure.specs.declared.FrameMeasure.{FrameMeasure}
-use Rattle.dss_measure.specs.declared.Measured.{Measured}
-use Rattle.dss_measure.specs.declared.Measured.TheVariants.{Frame as Gives, Refused as NotMeasured}
 use Rattle.dss_measure.specs.Measure.{measured_record, measured_at}
 use Rattle.dss_take.specs.Take.{Takes}
-use Rattle.dss_row.specs.declared.RecordFound.TheVariants.{One, End}
 use Rattle.dss_measure.proofs.Measures.{Measures, measures, measured_not}
 use Rattle.dss_row.specs.inner.FrameRows.{records_from}
 use Rattle.dss_row.proofs.FrameRowLaws.{record_read, record_measured, records_step, records_none, records_all}
-use Rattle.dss_reader.specs.declared.FramesRead.{FramesRead}
 use Rattle.dss_reader.specs.Reader.{frames_fit, given_frames, records_in}
 use Rattle.dss_reader.specs.inner.TakingAll.{all_payloads}
 use Rattle.dss_reader.proofs.TakingFrames.{TakingAll as PayloadsTaken, taking_start, start_left, taking_more, taking_measured, taking_fewer, taking_never, taking_empty}
@@ -33,6 +30,8 @@ use Rattle.gateway_row.specs.RowWords.{record_words, record_len, places}
 use Rattle.gateway_row.proofs.LaidWords.{LayingWords, laying_start, laying_end, part_of, back_part, laying_part, joined_none, joined_more}
 use Rattle.gateway_frames.specs.FramesWords.{frames_row}
 use Rattle.gateway_frames.specs.inner.LaidRecords.{row_placed, words_from, Asks}
+use Rattle.dss_reader.specs.declared.DssReader.{DssReader}
+use Rattle.dss_reader.specs.declared.FramesRead.{FramesRead}
 
 -- while they are laid: k records are left, which fit behind the first n words, and their payloads go into the room no further than
 -- their frames into the run
@@ -56,14 +55,14 @@ module _ (s start aim row : List ℕ) (p a n k : ℕ) (l : LaysRecords s start a
   some h = omega arith
 
   -- no frame stands there
-  pub lays_none : (x : Refused) → 0 < k → measured_at Reader s p ≡ NotMeasured x → row ≡ aim
+  pub lays_none : (x : Refused) → 0 < k → measured_at Reader s p ≡ Err x → row ≡ aim
   lays_none x h e =
       laying_end start aim row (words_from s p a k) n l.laying
       (ap (λ (j : ℕ). joined record_words (records_from j s (row_placed p a k))) (some h)
-      ∙ ap (joined record_words) (records_step (k - 1) s (row_placed p a k) End (sym (record_read s (row_placed p a k) (refused x) (λ z. omega arith) (measured_not Reader s p x e))))
+      ∙ ap (joined record_words) (records_step (k - 1) s (row_placed p a k) None (sym (record_read s (row_placed p a k) (refused x) (λ z. omega arith) (measured_not Reader s p x e))))
       ∙ joined_none record_words)
 
-  module _ (m : FrameMeasure) (h : 0 < k) (e : measured_at Reader s p ≡ Gives m) where
+  module _ (m : FrameMeasure) (h : 0 < k) (e : measured_at Reader s p ≡ Ok m) where
     abbrev w : Measures Reader s p m
     w = measures Reader s p m e
 
@@ -78,7 +77,7 @@ module _ (s start aim row : List ℕ) (p a n k : ℕ) (l : LaysRecords s start a
     one_left =
         ap (λ (j : ℕ). joined record_words (records_from j s (row_placed p a k))) (some h)
         ∙ ap (joined record_words)
-        (records_step (k - 1) s (row_placed p a k) (One (measured_record p a m) (row_placed m.end (a + m.payload_len) (k - 1)))
+        (records_step (k - 1) s (row_placed p a k) (Some (measured_record p a m, row_placed m.end (a + m.payload_len) (k - 1)))
         (sym (record_measured s (row_placed p a k) m (λ z. omega arith) w)))
         ∙ joined_more record_words (measured_record p a m) (records_from (k - 1) s (row_placed m.end (a + m.payload_len) (k - 1)))
 
@@ -113,11 +112,11 @@ module _ {s whole start aim room row : List ℕ} {p a n k : ℕ} (w : TakingReco
     some_left : 0 < length w.payloads.left
     some_left = omega (arith, w.counted)
 
-    pub taking_stays : (x : Refused) (r : Measured) → Takes Reader s p (tail room a) r t → r ≡ NotMeasured x → ⊥
+    pub taking_stays : (x : Refused) (r : Result FrameMeasure Refused) → Takes Reader s p (tail room a) r t → r ≡ Err x → ⊥
     taking_stays x r i e = taking_never w.payloads t x r i e some_left
 
-    module _ (m : FrameMeasure) (r : Measured) (i : Takes Reader s p (tail room a) r t) (e : r ≡ Gives m) where
-      measured : measured_at Reader s p ≡ Gives m
+    module _ (m : FrameMeasure) (r : Result FrameMeasure Refused) (i : Takes Reader s p (tail room a) r t) (e : r ≡ Ok m) where
+      measured : measured_at Reader s p ≡ Ok m
       measured = taking_measured w.payloads t m r i e
 
       pub taking_low : a + m.payload_len ≤ m.end
@@ -139,15 +138,15 @@ module _ {s whole start aim room row : List ℕ} {p a n k : ℕ} (w : TakingReco
 -- ---- the whole row
 
 -- an answer has no more records than the row has places
-pub places_enough : (s : List ℕ) (p : ℕ) (room : List ℕ) (rows : ℕ) (r : FramesRead) → r ≡ given_frames s p (length room) rows (all_frames s p) → records_in r ≤ rows
-places_enough s p room rows r e = subst (λ (x : FramesRead). records_in x ≤ rows) (sym e) (of_all (all_frames s p))
+pub places_enough : (s : List ℕ) (p : ℕ) (room : List ℕ) (rows : ℕ) (r : Result FramesRead Refused × DssReader) → r ≡ given_frames s p (length room) rows (all_frames s p) → records_in r ≤ rows
+places_enough s p room rows r e = subst (λ (x : Result FramesRead Refused × DssReader). records_in x ≤ rows) (sym e) (of_all (all_frames s p))
   where
     of_all : (a : AllRead) → records_in (given_frames s p (length room) rows a) ≤ rows
     of_all (refused_all r) = omega arith
     of_all (frames fs q) =
         by (frames_fit s fs (length room) rows)
-        (λ t. subst (λ (x : FramesRead). records_in x ≤ rows) (sym (pick_yes _ _ t)) (leb-true (length fs) rows (and_split (leb (length (payloads_of s fs)) (length room)) (leb (length fs) rows) t).1))
-        (λ t. subst (λ (x : FramesRead). records_in x ≤ rows) (sym (pick_no _ _ t)) (omega arith))
+        (λ t. subst (λ (x : Result FramesRead Refused × DssReader). records_in x ≤ rows) (sym (pick_yes _ _ t)) (leb-true (length fs) rows (and_split (leb (length (payloads_of s fs)) (length room)) (leb (length fs) rows) t).1))
+        (λ t. subst (λ (x : Result FramesRead Refused × DssReader). records_in x ≤ rows) (sym (pick_no _ _ t)) (omega arith))
 
 -- the row with so many records laid into it
 abbrev filled : List ℕ → ℕ → List ℕ → ℕ → List ℕ
@@ -161,17 +160,17 @@ filled_is : (s : List ℕ) (p size : ℕ) (row : List ℕ) (a : AllRead) → all
 filled_is s p size row (refused_all r) e = filled_none s p row
 filled_is s p size row (frames fs q) e =
     by (frames_fit s fs size (places row))
-    (λ t. ap (λ (r : FramesRead). filled s p row (records_in r)) (pick_yes _ _ t)
+    (λ t. ap (λ (r : Result FramesRead Refused × DssReader). filled s p row (records_in r)) (pick_yes _ _ t)
     ∙ ap (λ (l : List DssFrame). splice row 0 (joined record_words l)) (records_all fs (length fs) s p 0 q e (omega arith))
     ∙ sym (pick_yes _ _ t))
-    (λ t. ap (λ (r : FramesRead). filled s p row (records_in r)) (pick_no _ _ t) ∙ filled_none s p row ∙ sym (pick_no _ _ t))
+    (λ t. ap (λ (r : Result FramesRead Refused × DssReader). filled s p row (records_in r)) (pick_no _ _ t) ∙ filled_none s p row ∙ sym (pick_no _ _ t))
 
 -- what the row holds once the records of the answer are laid into it
-pub row_filled : (s : List ℕ) (p : ℕ) (room row : List ℕ) (r : FramesRead) (row_after : List ℕ) (count : ℕ)
+pub row_filled : (s : List ℕ) (p : ℕ) (room row : List ℕ) (r : Result FramesRead Refused × DssReader) (row_after : List ℕ) (count : ℕ)
     → r ≡ given_frames s p (length room) (places row) (all_frames s p) → records_in r ≡ count → row_after ≡ filled s p row count → row_after ≡ frames_row s p (length room) row (all_frames s p)
 row_filled s p room row r row_after count g c e =
     e ∙ ap (filled s p row) (sym c ∙ ap records_in g) ∙ filled_is s p (length room) row (all_frames s p) refl
 
 -- the row that a refusal leaves
-pub row_kept : (s : List ℕ) (p : ℕ) (room row : List ℕ) (r : FramesRead) → r ≡ given_frames s p (length room) (places row) (all_frames s p) → records_in r ≡ 0 → row ≡ frames_row s p (length room) row (all_frames s p)
+pub row_kept : (s : List ℕ) (p : ℕ) (room row : List ℕ) (r : Result FramesRead Refused × DssReader) → r ≡ given_frames s p (length room) (places row) (all_frames s p) → records_in r ≡ 0 → row ≡ frames_row s p (length room) row (all_frames s p)
 row_kept s p room row r g c = row_filled s p room row r row 0 g c (sym (filled_none s p row))

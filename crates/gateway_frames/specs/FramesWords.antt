@@ -1,19 +1,21 @@
 -- All frames at once for a caller in C or Rust: what is answered in words, and what the lent room and the lent row then hold.
-use Rattle.std.specs.Prelude.{ℕ, List, [], ◌∷◌, length}
+use Rattle.std.specs.Prelude.{ℕ, List, [], ◌∷◌, length, Result, Ok, Err}
 use Rattle.wire.specs.Bytes.{landed, joined}
 use Rattle.dss_frame.specs.Frames.{AllRead, frames, refused_all, all_frames}
 use Rattle.dss_frame.specs.FrameRecords.{frame_records}
 use Rattle.dss_reader.specs.Reader.{frames_fit, given_frames, room_all}
-use Rattle.dss_reader.specs.declared.FramesRead.{FramesRead}
-use Rattle.dss_reader.specs.declared.FramesRead.TheVariants.{Frames, Refused as NoneRead}
 use Rattle.gateway_words.specs.AnswerWords.{refusal_words, LeavesRow}
 use Rattle.gateway_row.specs.RowWords.{record_words, places}
+use Rattle.dss_reader.specs.declared.DssReader.{DssReader}
+use Rattle.dss_reader.specs.declared.FramesRead.{FramesRead}
+use Rattle.answer.specs.declared.Refused.{Refused}
+use Rattle.dss_reader.specs.Reader.{frames_read}
 
 -- frames: 0, the position behind them, how many they are, how many bytes their payloads have. A refusal's place is the position
 -- that it leaves
-abbrev pub frames_words : FramesRead → List ℕ
-frames_words (Frames count bytes reader) = 0 ∷ reader.position ∷ count ∷ bytes ∷ 0 ∷ 0 ∷ 0 ∷ 0 ∷ []
-frames_words (NoneRead r reader) = refusal_words r
+abbrev pub frames_words : Result FramesRead Refused × DssReader → List ℕ
+frames_words (Ok (frames_read count bytes), reader) = 0 ∷ reader.position ∷ count ∷ bytes ∷ 0 ∷ 0 ∷ 0 ∷ 0 ∷ []
+frames_words (Err r, reader) = refusal_words r
 
 -- "Frames land in a lent row of frame records": the records' words at the row's start where all that the call lays down fits
 abbrev pub frames_row : List ℕ → ℕ → ℕ → List ℕ → AllRead → List ℕ

@@ -1,30 +1,21 @@
 -- Module 4, reading, for a caller in C or Rust: what the functions on lengths, objects and parameters answer in words, and what
 -- lent rooms and work areas then hold.
-use Rattle.std.specs.Prelude.{ℕ, suc, ◌-◌, ◌^◌, Bool, List, [], ◌∷◌, ℤ, pos, negsuc, length, drop}
+use Rattle.std.specs.Prelude.{ℕ, suc, ◌-◌, ◌^◌, Bool, List, [], ◌∷◌, ℤ, pos, negsuc, length, drop, Result, Ok, Err}
 use Rattle.wire.specs.Bytes.{pick}
-use Rattle.ddm_length.specs.declared.Marshaled.{Marshaled}
-use Rattle.ddm_length.specs.declared.Marshaled.TheVariants.{Takes, Refused as Refuses}
 use Rattle.ddm_object.specs.Objects.{parsed, parameters}
 use Rattle.ddm_object.specs.ObjectCalls.{object_at, work_parsed, find_from, work_found}
 use Rattle.ddm_object.specs.declared.DdmObject.{DdmObject}
-use Rattle.ddm_object.specs.declared.ObjectFound.{ObjectFound}
-use Rattle.ddm_object.specs.declared.ObjectFound.TheVariants.{Object as Gives, Refused as NotGiven}
-use Rattle.ddm_object.specs.declared.Stepped.{Stepped}
-use Rattle.ddm_object.specs.declared.Stepped.TheVariants.{Param, Refused as NoStep}
-use Rattle.ddm_object.specs.declared.U16Found.{U16Found}
-use Rattle.ddm_object.specs.declared.U16Found.TheVariants.{Number as U16, Refused as NoU16}
-use Rattle.ddm_object.specs.declared.U32Found.{U32Found}
-use Rattle.ddm_object.specs.declared.U32Found.TheVariants.{Number as U32, Refused as NoU32}
-use Rattle.ddm_object.specs.declared.I32Found.{I32Found}
-use Rattle.ddm_object.specs.declared.I32Found.TheVariants.{Number as I32, Refused as NoI32}
 use Rattle.gateway_words.specs.AnswerWords.{refusal_words, done_words, Leaves}
+use Rattle.ddm_length.specs.declared.Marshaled.{Marshaled}
+use Rattle.answer.specs.declared.Refused.{Refused}
+use Rattle.ddm_length.specs.Lengths.{takes}
 
 -- ---- lengths and markers
 
 -- what a length field says: the whole length, and the header's
-abbrev pub length_words : Marshaled → List ℕ
-length_words (Takes total header) = done_words total header 0 0
-length_words (Refuses r) = refusal_words r
+abbrev pub length_words : Result Marshaled Refused → List ℕ
+length_words (Ok (takes total header)) = done_words total header 0 0
+length_words (Err r) = refusal_words r
 
 -- ---- objects and parameters
 
@@ -40,14 +31,14 @@ placed_words place o = 0 ∷ place ∷ o.code_point ∷ flag_word o.in_work ∷ 
 abbrev pub object_words : DdmObject → List ℕ
 object_words = placed_words 0
 
-abbrev pub found_words : ObjectFound → List ℕ
-found_words (Gives o) = object_words o
-found_words (NotGiven r) = refusal_words r
+abbrev pub found_words : Result DdmObject Refused → List ℕ
+found_words (Ok o) = object_words o
+found_words (Err r) = refusal_words r
 
 -- one step of a walk over parameters: the parameter at a place, with the next place
-abbrev pub step_words : Stepped → List ℕ
-step_words (Param o next) = placed_words next o
-step_words (NoStep r) = refusal_words r
+abbrev pub step_words : Result (DdmObject × ℕ) Refused → List ℕ
+step_words (Ok (o, next)) = placed_words next o
+step_words (Err r) = refusal_words r
 
 -- what the object at a place answers, and what the lent words and the lent work area then hold
 abbrev pub ReadsObject : List ℕ → ℕ → List ℕ → List ℕ → ℕ → List ℕ → List ℕ → Type 0
@@ -64,14 +55,14 @@ abbrev pub word_of : ℤ → ℕ
 word_of (pos n) = n
 word_of (negsuc n) = 2 ^ 64 - suc n
 
-abbrev pub u16_words : U16Found → List ℕ
-u16_words (U16 n) = done_words n 0 0 0
-u16_words (NoU16 r) = refusal_words r
+abbrev pub u16_words : Result ℕ Refused → List ℕ
+u16_words (Ok n) = done_words n 0 0 0
+u16_words (Err r) = refusal_words r
 
-abbrev pub u32_words : U32Found → List ℕ
-u32_words (U32 n) = done_words n 0 0 0
-u32_words (NoU32 r) = refusal_words r
+abbrev pub u32_words : Result ℕ Refused → List ℕ
+u32_words (Ok n) = done_words n 0 0 0
+u32_words (Err r) = refusal_words r
 
-abbrev pub i32_words : I32Found → List ℕ
-i32_words (I32 n) = done_words (word_of n) 0 0 0
-i32_words (NoI32 r) = refusal_words r
+abbrev pub i32_words : Result ℤ Refused → List ℕ
+i32_words (Ok n) = done_words (word_of n) 0 0 0
+i32_words (Err r) = refusal_words r

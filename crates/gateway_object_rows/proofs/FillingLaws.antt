@@ -1,4 +1,5 @@
 -- The loop that fills a row of words, record by record, and what the row then holds.
+use Rattle.std.specs.Prelude.{Result, Ok, Err}
 use Prim.Native.Nat.{ℕ, suc, ◌+◌, ◌*◌, ◌-◌, ◌≤◌, ◌<◌}
 use native.Mathlib.Omega.{arith}
 use mathlib.Core.Path.{◌≡◌, refl, sym, ◌∙◌, ap, ap₂}
@@ -21,14 +22,12 @@ use Rattle.ddm_rows.specs.ObjectRows.{walked_as, count_of, TakesWork}
 use Rattle.ddm_rows.specs.inner.RowsFilled.{one_more_object, recs_from}
 use Rattle.ddm_rows.proofs.ObjectRowLaws.{recs_records, walked_parameters}
 use Rattle.ddm_object.specs.declared.DdmObject.{DdmObject}
-use Rattle.ddm_rows.specs.declared.ObjectsFound.{ObjectsFound}
-use Rattle.ddm_rows.specs.declared.ObjectsFound.TheVariants.{Objects, Refused as NoneGiven}
-use Rattle.ddm_object.specs.declared.Stepped.{Stepped}
-use Rattle.ddm_object.specs.declared.Stepped.TheVariants.{Param, Refused as NoStep}
 use Rattle.gateway_words.specs.AnswerWords.{Answered}
 use Rattle.gateway_object.specs.ObjectWords.{object_words}
 use Rattle.gateway_object_rows.specs.ListWords.{object_len, list_words, list_row, records}
 use Rattle.gateway_object_rows.specs.inner.Listed.{ListsWordsAs}
+use Rattle.ddm_rows.specs.declared.ObjectsFound.{ObjectsFound}
+use Rattle.ddm_rows.specs.ListCalls.{objects_found}
 
 -- ---- the words of records
 
@@ -74,7 +73,7 @@ module _ (s : List ℕ) (n : ℕ) (row : List ℕ) (i at : ℕ) (now : List ℕ)
     unfolding recs_from
     next_is = let z : n - i ≡ suc (n - (i + 1)) = omega arith in ap (λ (k : ℕ). recs_from k s at) z
 
-    pub filling_step : (o : DdmObject) (next : ℕ) (part : List ℕ) → param_step_at s at ≡ Param o next
+    pub filling_step : (o : DdmObject) (next : ℕ) (part : List ℕ) → param_step_at s at ≡ Ok (o, next)
         → part ≡ laid (tail now (i * object_len)) 0 (object_words o) → Filling s n row (i + 1) next (back now (i * object_len) part)
     filling_step o next part e p =
         let m : List DdmObject = f.met in
@@ -85,7 +84,7 @@ module _ (s : List ℕ) (n : ℕ) (row : List ℕ) (i at : ℕ) (now : List ℕ)
           fits = f.fits;
           few = omega arith;
           count_is = omega (arith, length-append m (o ∷ []), f.count_is);
-          rest = f.rest ∙ ap (λ (l : List DdmObject). m ++ l) (next_is ∙ ap (λ (z : Stepped). one_more_object z (λ r k. r ∷ recs_from (n - (i + 1)) s k)) e)
+          rest = f.rest ∙ ap (λ (l : List DdmObject). m ++ l) (next_is ∙ ap (λ (z : Result (DdmObject × ℕ) Refused). one_more_object z (λ r k. r ∷ recs_from (n - (i + 1)) s k)) e)
               ∙ sym (append_assoc m (o ∷ []) (recs_from (n - (i + 1)) s next));
           row_is = lent_laid now (i * object_len) part (object_words o) (omega (arith, filling_room)) p
               ∙ laid_fits now (i * object_len) (object_words o) filling_room
@@ -95,11 +94,11 @@ module _ (s : List ℕ) (n : ℕ) (row : List ℕ) (i at : ℕ) (now : List ℕ)
         }
 
     -- the walk ends before n records: there are no more
-    pub filling_ends : (r : Refused) → param_step_at s at ≡ NoStep r → now ≡ splice row 0 (list_row (recs_from n s 0))
+    pub filling_ends : (r : Refused) → param_step_at s at ≡ Err r → now ≡ splice row 0 (list_row (recs_from n s 0))
     filling_ends r e =
         f.row_is
         ∙ ap (λ (l : List DdmObject). splice row 0 (list_row l))
-        (sym (f.rest ∙ ap (λ (l : List DdmObject). f.met ++ l) (next_is ∙ ap (λ (z : Stepped). one_more_object z (λ r k. r ∷ recs_from (n - (i + 1)) s k)) e) ∙ append-nil f.met))
+        (sym (f.rest ∙ ap (λ (l : List DdmObject). f.met ++ l) (next_is ∙ ap (λ (z : Result (DdmObject × ℕ) Refused). one_more_object z (λ r k. r ∷ recs_from (n - (i + 1)) s k)) e) ∙ append-nil f.met))
 
   -- all n are there
   pub filling_done : n ≤ i → now ≡ splice row 0 (list_row (recs_from n s 0))
@@ -121,14 +120,14 @@ unfolding works_of object_records list_row
 none_landed s size rows row =
     pick_yes _ _ (and_both (leb 0 size) (leb 0 rows) (le-leb 0 size (omega arith)) (le-leb 0 rows (omega arith))) ∙ splice_none row 0
 
-module _ (whole : Bool) (s work row : List ℕ) (r : ObjectsFound) (zw : List ℕ) (t : TakesWork s (walked_as whole s) work (records row) r zw) where
+module _ (whole : Bool) (s work row : List ℕ) (r : Result ObjectsFound Refused) (zw : List ℕ) (t : TakesWork s (walked_as whole s) work (records row) r zw) where
   -- an answer's records fit the row
   pub count_fits : count_of r * object_len ≤ length row
   count_fits = rw t.answers (go (walked_as whole s))
     where
       go : (x : AllParsed) → count_of (given_list s (length work) (records row) x) * object_len ≤ length row
       go (objects os) =
-          pick_by (λ (a : ObjectsFound). count_of a * object_len ≤ length row) (objects_fit s os (length work) (records row)) (Objects (length os) (length (works_of s 0 os))) (NoneGiven (no_room 0 (length (works_of s 0 os)) (length os)))
+          pick_by (λ (a : Result ObjectsFound Refused). count_of a * object_len ≤ length row) (objects_fit s os (length work) (records row)) (Ok (objects_found (length os) (length (works_of s 0 os)))) (Err (no_room 0 (length (works_of s 0 os)) (length os)))
           (λ f. omega (arith, leb-true (length os) (records row) (and_split (leb (length (works_of s 0 os)) (length work)) (leb (length os) (records row)) f).1))
           (λ f. omega arith)
       go (refused_all y) = omega arith

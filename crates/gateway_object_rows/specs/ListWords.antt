@@ -1,19 +1,20 @@
 -- Lists of objects and parameters for a caller in C or Rust: a row of words, eight a record; what the calls answer, and what the
 -- lent work area, row and words then hold.
-use Rattle.std.specs.Prelude.{ℕ, ◌/◌, List, [], ◌∷◌, ◌++◌, length}
+use Rattle.std.specs.Prelude.{ℕ, ◌/◌, List, [], ◌∷◌, ◌++◌, length, Result, Ok, Err}
 use Rattle.wire.specs.Bytes.{landed}
 use Rattle.ddm_object.specs.Objects.{Object, all_objects, parameters}
 use Rattle.ddm_rows.specs.ListCalls.{works_of, object_records, objects_fit, given_objects, given_list, listed}
 use Rattle.ddm_object.specs.declared.DdmObject.{DdmObject}
-use Rattle.ddm_rows.specs.declared.ObjectsFound.{ObjectsFound}
-use Rattle.ddm_rows.specs.declared.ObjectsFound.TheVariants.{Objects, Refused as NoneGiven}
 use Rattle.gateway_words.specs.AnswerWords.{answer_len, refusal_words, done_words, LeavesRow}
 use Rattle.gateway_object.specs.ObjectWords.{object_words}
+use Rattle.ddm_rows.specs.declared.ObjectsFound.{ObjectsFound}
+use Rattle.answer.specs.declared.Refused.{Refused}
+use Rattle.ddm_rows.specs.ListCalls.{objects_found}
 
 -- how many records stand in the row, and how many bytes of the work area are filled
-abbrev pub list_words : ObjectsFound → List ℕ
-list_words (Objects count work) = done_words count work 0 0
-list_words (NoneGiven r) = refusal_words r
+abbrev pub list_words : Result ObjectsFound Refused → List ℕ
+list_words (Ok (objects_found count work)) = done_words count work 0 0
+list_words (Err r) = refusal_words r
 
 -- the words of records, one behind the other
 unfoldable pub list_row : List DdmObject → List ℕ
@@ -28,7 +29,7 @@ abbrev pub records : List ℕ → ℕ
 records row = length row / object_len
 
 -- "`parameters` and `parse_ddm_objects` fill a lent row, one record each": `Lists` of ddm_rows, in words
-abbrev pub ListsWords : List ℕ → List Object → (ℕ → ℕ → ObjectsFound) → List ℕ → List ℕ → List ℕ → ℕ → List ℕ → List ℕ → List ℕ → Type 0
+abbrev pub ListsWords : List ℕ → List Object → (ℕ → ℕ → Result ObjectsFound Refused) → List ℕ → List ℕ → List ℕ → ℕ → List ℕ → List ℕ → List ℕ → Type 0
 ListsWords s os answer work row =
     LeavesRow (list_words (answer (length work) (records row)))
     (landed (objects_fit s os (length work) (records row)) work (works_of s 0 os))

@@ -1,4 +1,5 @@
 -- A record can be read back from its words, and a row says its records: cut into parts of a record's length, it is their words.
+use Rattle.std.specs.Prelude.{Ok}
 use Prim.Native.Nat.{ℕ, ◌+◌, ◌*◌, ◌≤◌, ◌<◌}
 use native.Mathlib.Omega.{arith}
 use native.Mathlib.Nat.{zero-mul, suc-mul, add_comm}
@@ -19,7 +20,6 @@ use Rattle.dss_head.proofs.HeadLaws.{format_back}
 use Rattle.dss_head.specs.declared.DssType.{DssType}
 use Rattle.dss_head.specs.declared.DssType.TheVariants.{Reply}
 use Rattle.dss_head.specs.declared.DssHeader.{DssHeader}
-use Rattle.dss_head.specs.declared.TypeFound.TheVariants.{Is}
 use Rattle.dss_frame.specs.declared.DssFrame.{DssFrame}
 use Rattle.gateway_words.specs.AnswerWords.{answer_len, refusal_words}
 use Rattle.gateway_row.specs.RowWords.{format_byte, record_words, refused_words, record_len, cut}
@@ -27,10 +27,10 @@ use Rattle.gateway_row.specs.RowWords.{format_byte, record_words, refused_words,
 -- ---- a frame
 
 -- the format byte says the type and the flags
-pub format_says : (h : DssHeader) → (type_at (format_byte h) 0 ≡ Is h.dss_type) × (flags_of (format_byte h) ≡ h.flags)
+pub format_says : (h : DssHeader) → (type_at (format_byte h) 0 ≡ Ok h.dss_type) × (flags_of (format_byte h) ≡ h.flags)
 format_says h = format_back h.dss_type h.flags 0
 
-one_type : {t u : DssType} → Is t ≡ Is u → t ≡ u
+one_type : {t u : DssType} → Ok t ≡ Ok u → t ≡ u
 one_type e = cc
 
 -- the words of two records are the same only where the records are
@@ -182,7 +182,7 @@ reply₀ = record {
 
 -- its words, twice in a row of twenty-one; what they say; and the words of a refusal and of its record beside them
 example : (cut record_len 2 (splice (replicate 21 9) 0 (joined record_words (reply₀ ∷ reply₀ ∷ []))) ≡ (0 ∷ 3 ∷ 8 ∷ 0x42 ∷ 7 ∷ 2 ∷ 1 ∷ 0 ∷ 20 ∷ 28 ∷ []) ∷ (0 ∷ 3 ∷ 8 ∷ 0x42 ∷ 7 ∷ 2 ∷ 1 ∷ 0 ∷ 20 ∷ 28 ∷ []) ∷ [])
-    × (type_at 0x42 0 ≡ Is Reply)
+    × (type_at 0x42 0 ≡ Ok Reply)
     × (flags_of 0x42 ≡ reply₀.header.flags)
     × (refusal_words (record { why = InlineTooShort 3 0x2412; place = 9 }) ≡ 5 ∷ 9 ∷ 3 ∷ 4 ∷ 0x2412 ∷ 0 ∷ 0 ∷ 0 ∷ [])
     × (refusal_said 5 3 4 0x2412 ≡ InlineTooShort 3 0x2412)

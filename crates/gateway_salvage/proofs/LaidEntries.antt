@@ -1,4 +1,5 @@
 -- The entries' words laid into the row one after the other: what is left of them, and that the row they lead to is the definition's.
+use Rattle.std.specs.Prelude.{Result, Some, None}
 use Prim.Native.Nat.{ℕ, suc, ◌+◌, ◌*◌, ◌-◌, ◌≤◌, ◌<◌}
 use native.Mathlib.Omega.{arith}
 use mathlib.Core.Path.{◌≡◌, refl, sym, ap, ◌∙◌, subst}
@@ -17,7 +18,6 @@ use Rattle.dss_measure.specs.declared.FrameMeasure.{FrameMeasure}
 use Rattle.dss_measure.specs.Measure.{measured_record}
 use Rattle.dss_salvage.specs.declared.Entry.TheVariants.{Frame as Framed, Refused as Refuses}
 use Rattle.dss_salvage.specs.declared.SalvageEntry.{SalvageEntry}
-use Rattle.dss_salvage.specs.declared.Salvaged.{Salvaged}
 use Rattle.dss_salvage.specs.declared.Step.{Step}
 use Rattle.dss_salvage.specs.declared.Step.TheVariants.{Frame, Over, Last, End as Ends}
 use Rattle.dss_salvage.specs.SalvageEntries.{salvaged_bytes, salvaged_row}
@@ -25,12 +25,12 @@ use Rattle.dss_salvage_call.specs.SalvageCall.{entries_fit, given_entries, Gathe
 use Rattle.dss_salvage.specs.inner.SalvageSteps.{step_at}
 use Rattle.dss_salvage.proofs.SalvageStepping.{OnFrame, OnOver, on_frame, on_over}
 use Rattle.dss_frame.specs.declared.RowPlace.{RowPlace}
-use Rattle.dss_salvage_row.specs.declared.RecordFound.TheVariants.{One, End}
 use Rattle.dss_salvage_row.specs.inner.EntryRows.{placed, entry_found_of, entry_records_from}
 use Rattle.dss_salvage_row.proofs.EntryRowLaws.{record_step, records_step, records_none, records_all}
 use Rattle.gateway_row.specs.RowWords.{record_words, refused_words, record_len, places}
 use Rattle.gateway_row.proofs.LaidWords.{LayingWords, laying_start, laying_end, part_of, back_part, laying_part, joined_none, joined_more}
 use Rattle.gateway_salvage.specs.SalvageWords.{entry_words}
+use Rattle.dss_salvage.specs.declared.Salvaging.{Salvaging}
 
 -- the words of the k entries from p on, the first payload at a
 abbrev pub entry_words_from : List ℕ → ℕ → ℕ → ℕ → List ℕ
@@ -66,15 +66,15 @@ module _ (s start aim row : List ℕ) (p a n k : ℕ) (l : LaysEntries s start a
     lays_end e =
         laying_end start aim row (entry_words_from s p a k) n l.laying
         (ap (λ (j : ℕ). joined entry_words (entry_records_from j s (placed p a k))) some
-        ∙ ap (joined entry_words) (records_step (k - 1) s (placed p a k) End (sym (record_step s (placed p a k) Ends (λ z. omega arith) e)))
+        ∙ ap (joined entry_words) (records_step (k - 1) s (placed p a k) None (sym (record_step s (placed p a k) Ends (λ z. omega arith) e)))
         ∙ joined_none entry_words)
 
     -- one, and those behind it
-    one_left : (x : SalvageEntry) (next : RowPlace) (t : Step) → step_at s p ≡ t → One x next ≡ entry_found_of (placed p a k) t
+    one_left : (x : SalvageEntry) (next : RowPlace) (t : Step) → step_at s p ≡ t → Some (x, next) ≡ entry_found_of (placed p a k) t
         → entry_words_from s p a k ≡ entry_words x ++ joined entry_words (entry_records_from (k - 1) s next)
     one_left x next t e i =
         ap (λ (j : ℕ). joined entry_words (entry_records_from j s (placed p a k))) some
-        ∙ ap (joined entry_words) (records_step (k - 1) s (placed p a k) (One x next) (i ∙ sym (record_step s (placed p a k) t (λ z. omega arith) e)))
+        ∙ ap (joined entry_words) (records_step (k - 1) s (placed p a k) (Some (x, next)) (i ∙ sym (record_step s (placed p a k) t (λ z. omega arith) e)))
         ∙ joined_more entry_words x (entry_records_from (k - 1) s next)
 
     -- its words are laid
@@ -136,14 +136,14 @@ module _ (s start aim row : List ℕ) (p a n k : ℕ) (l : LaysEntries s start a
 -- ---- the whole row
 
 -- an answer has no more entries than the row has places
-pub places_enough : (s room : List ℕ) (rows : ℕ) (r : Salvaged) (after : List ℕ) → GathersEntries s room rows r after → entries_in r ≤ rows
-places_enough s room rows r after g = subst (λ (x : Salvaged). entries_in x ≤ rows) (sym g.answers) (of_all (salvaged s))
+pub places_enough : (s room : List ℕ) (rows : ℕ) (r : Result Salvaging Refused) (after : List ℕ) → GathersEntries s room rows r after → entries_in r ≤ rows
+places_enough s room rows r after g = subst (λ (x : Result Salvaging Refused). entries_in x ≤ rows) (sym g.answers) (of_all (salvaged s))
   where
     of_all : (x : reading.Salvaged) → entries_in (given_entries s (length room) rows x) ≤ rows
     of_all x =
         by (entries_fit s x.entries (length room) rows)
-        (λ t. subst (λ (y : Salvaged). entries_in y ≤ rows) (sym (pick_yes _ _ t)) (leb-true (length x.entries) rows (and_split (leb (length (salvaged_bytes s x.entries)) (length room)) (leb (length x.entries) rows) t).1))
-        (λ t. subst (λ (y : Salvaged). entries_in y ≤ rows) (sym (pick_no _ _ t)) (omega arith))
+        (λ t. subst (λ (y : Result Salvaging Refused). entries_in y ≤ rows) (sym (pick_yes _ _ t)) (leb-true (length x.entries) rows (and_split (leb (length (salvaged_bytes s x.entries)) (length room)) (leb (length x.entries) rows) t).1))
+        (λ t. subst (λ (y : Result Salvaging Refused). entries_in y ≤ rows) (sym (pick_no _ _ t)) (omega arith))
 
 -- the row with so many entries laid into it
 abbrev filled : List ℕ → List ℕ → ℕ → List ℕ
@@ -165,11 +165,11 @@ filled_is : (s : List ℕ) (size : ℕ) (row : List ℕ)
     ≡ landed (entries_fit s (salvaged s).entries size (places row)) row (joined entry_words (salvaged_row s 0 (salvaged s).entries))
 filled_is s size row =
     by (entries_fit s (salvaged s).entries size (places row))
-    (λ t. ap (λ (x : Salvaged). filled s row (entries_in x)) (pick_yes _ _ t) ∙ filled_all s row ∙ sym (pick_yes _ _ t))
-    (λ t. ap (λ (x : Salvaged). filled s row (entries_in x)) (pick_no _ _ t) ∙ filled_none s row ∙ sym (pick_no _ _ t))
+    (λ t. ap (λ (x : Result Salvaging Refused). filled s row (entries_in x)) (pick_yes _ _ t) ∙ filled_all s row ∙ sym (pick_yes _ _ t))
+    (λ t. ap (λ (x : Result Salvaging Refused). filled s row (entries_in x)) (pick_no _ _ t) ∙ filled_none s row ∙ sym (pick_no _ _ t))
 
 -- what the row holds once the records of the answer are laid into it
-pub row_filled : (s room row : List ℕ) (r : Salvaged) (after row_after : List ℕ) (count : ℕ)
+pub row_filled : (s room row : List ℕ) (r : Result Salvaging Refused) (after row_after : List ℕ) (count : ℕ)
     → GathersEntries s room (places row) r after → count ≡ entries_in r → row_after ≡ filled s row count
     → row_after ≡ landed (entries_fit s (salvaged s).entries (length room) (places row)) row (joined entry_words (salvaged_row s 0 (salvaged s).entries))
 row_filled s room row r after row_after count g c e =

@@ -1,5 +1,5 @@
 -- The salvage reading for a caller in C or Rust: what is answered in words, and what the lent room and the lent row then hold.
-use Rattle.std.specs.Prelude.{ℕ, List, length}
+use Rattle.std.specs.Prelude.{ℕ, List, length, Result, Ok, Err}
 use Rattle.wire.specs.Bytes.{landed, joined}
 use Rattle.dss_frame.specs.Salvage.{salvaged}
 use Rattle.dss_salvage.specs.SalvageEntries.{salvaged_bytes, salvaged_row}
@@ -7,10 +7,11 @@ use Rattle.dss_salvage_call.specs.SalvageCall.{entries_fit, given_entries}
 use Rattle.dss_salvage.specs.declared.Entry.{Entry}
 use Rattle.dss_salvage.specs.declared.Entry.TheVariants.{Frame, Refused as Refuses}
 use Rattle.dss_salvage.specs.declared.SalvageEntry.{SalvageEntry}
-use Rattle.dss_salvage.specs.declared.Salvaged.{Salvaged}
-use Rattle.dss_salvage.specs.declared.Salvaged.TheVariants.{Done, Refused as NotSalvaged}
 use Rattle.gateway_words.specs.AnswerWords.{refusal_words, done_words, LeavesRow}
 use Rattle.gateway_row.specs.RowWords.{record_words, refused_words, places}
+use Rattle.answer.specs.declared.Refused.{Refused}
+use Rattle.dss_salvage.specs.declared.Salvaging.{Salvaging}
+use Rattle.dss_salvage.specs.inner.SalvageMeasure.{counted}
 
 -- "Entries are listed in order, one record each, a refusal's without payload": a frame's first word is 0, a refusal's its number; the
 -- last two say where it stood
@@ -22,9 +23,9 @@ abbrev pub entry_words : SalvageEntry → List ℕ
 entry_words e = words_of e.entry
 
 -- how many entries, how many bytes their payloads have, the tail's place; "the one refusal of the call is 9"
-abbrev pub salvaged_words : Salvaged → List ℕ
-salvaged_words (Done count bytes tail) = done_words count bytes tail 0
-salvaged_words (NotSalvaged r) = refusal_words r
+abbrev pub salvaged_words : Result Salvaging Refused → List ℕ
+salvaged_words (Ok (counted count bytes tail)) = done_words count bytes tail 0
+salvaged_words (Err r) = refusal_words r
 
 -- what salvaging a run answers, and what the lent words, room and row then hold
 abbrev pub SalvagesInWords : List ℕ → List ℕ → List ℕ → List ℕ → ℕ → List ℕ → List ℕ → List ℕ → Type 0

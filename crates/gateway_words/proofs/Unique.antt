@@ -1,11 +1,11 @@
 -- Of each function: any two outcomes that its contract allows are equal. The contract is named, and not written again.
+use Rattle.std.specs.Prelude.{Result}
 use Prim.Native.Nat.{ℕ}
 use mathlib.Core.Path.{◌≡◌, sym, ◌∙◌}
 use mathlib.Core.List.{List}
 use contract.Lifetimes.{Lfts}
 use denote.Ref.{MutBor, at_last}
 use Rattle.answer.specs.declared.Refused.{Refused}
-use Rattle.answer.specs.declared.Laid.{Laid}
 use Rattle.gateway_words.specs.AnswerWords.{Answered, Leaves, LeavesRow}
 use Rattle.gateway_words.proofs.put_words.Reads as put_words
 use Rattle.gateway_words.proofs.put_done.Reads as put_done
@@ -49,7 +49,7 @@ module _ (κs : Lfts 1) (words : MutBor (List ℕ)) (l l' : List ℕ) where
         → (r ≡ r') × (l ≡ l')
     put_refusal_one n p q = answered_one p q
 
-    pub put_laid_one : (a : Laid)
+    pub put_laid_one : (a : Result ℕ Refused)
         → put_laid.Post κs (words, (a, tt)) r (at_last words l, (a, tt))
         → put_laid.Post κs (words, (a, tt)) r' (at_last words l', (a, tt))
         → (r ≡ r') × (l ≡ l')

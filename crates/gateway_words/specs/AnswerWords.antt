@@ -1,12 +1,10 @@
 -- How an answer goes to a caller in C or Rust: eight words, document 01's number, the place, then a refusal's values or the
 -- result.
-use Rattle.std.specs.Prelude.{ℕ, ◌≡◌, List, [], ◌∷◌, length, get_or}
+use Rattle.std.specs.Prelude.{ℕ, ◌≡◌, List, [], ◌∷◌, length, get_or, Result, Ok, Err}
 use Rattle.wire.specs.Bytes.{laid}
 use Rattle.answer.specs.Numbers.{number_of, values_of}
 use Rattle.answer.specs.Rooms.{laid_at_start}
 use Rattle.answer.specs.declared.Refused.{Refused}
-use Rattle.answer.specs.declared.Laid.{Laid}
-use Rattle.answer.specs.declared.Laid.TheVariants.{Bytes, Refused as NotLaid}
 
 -- how many words an answer has
 abbrev pub answer_len : ℕ
@@ -30,9 +28,9 @@ abbrev pub done_words : ℕ → ℕ → ℕ → ℕ → List ℕ
 done_words a b c d = 0 ∷ 0 ∷ a ∷ b ∷ c ∷ d ∷ 0 ∷ 0 ∷ []
 
 -- bytes laid down: how many
-abbrev pub laid_words : Laid → List ℕ
-laid_words (Bytes n) = done_words n 0 0 0
-laid_words (NotLaid r) = refusal_words r
+abbrev pub laid_words : Result ℕ Refused → List ℕ
+laid_words (Ok n) = done_words n 0 0 0
+laid_words (Err r) = refusal_words r
 
 -- What a call answers, and what the lent words then hold: the answer's words laid down at their start where there are eight,
 -- else what they held.

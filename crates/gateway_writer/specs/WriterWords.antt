@@ -1,17 +1,13 @@
 -- Module 2 for a caller in C or Rust: a frame to be written, of numbers and bytes, and what its writing answers in words and
 -- leaves in the lent room.
-use Rattle.std.specs.Prelude.{ℕ, Bool, List, ltb, leb, length}
+use Rattle.std.specs.Prelude.{ℕ, Bool, List, ltb, leb, length, Result, Ok, Err}
 use Rattle.wire.specs.Bytes.{pick, laid}
 use Rattle.answer.specs.Rooms.{out_of_bounds}
 use Rattle.answer.specs.declared.Refused.{Refused}
 use Rattle.dss_head.specs.declared.DssType.{DssType}
-use Rattle.dss_head.specs.declared.TypeFound.{TypeFound}
-use Rattle.dss_head.specs.declared.TypeFound.TheVariants.{Is, Refused as NoType}
 use Rattle.dss_frame.specs.Written.{Sent, written}
 use Rattle.dss_writer.specs.Writer.{sent, wrote}
 use Rattle.dss_writer.specs.declared.DssWriter.{DssWriter}
-use Rattle.dss_writer.specs.declared.Wrote.{Wrote}
-use Rattle.dss_writer.specs.declared.Wrote.TheVariants.{Done, Refused as NotWritten}
 use Rattle.gateway_words.specs.AnswerWords.{refusal_words, done_words, Leaves}
 
 -- ---- what a call is given
@@ -31,24 +27,24 @@ yes b = ltb 0 b
 -- ---- a frame from the fill mark on
 
 -- written: the correlation, and the fill mark behind the frame
-abbrev pub wrote_words : Wrote → List ℕ
-wrote_words (Done w) = done_words w.correlation_id w.fill 0 0
-wrote_words (NotWritten r) = refusal_words r
+abbrev pub wrote_words : Result DssWriter Refused → List ℕ
+wrote_words (Ok w) = done_words w.correlation_id w.fill 0 0
+wrote_words (Err r) = refusal_words r
 
 -- "10 comes first wherever there is a position or mark"
 abbrev pub mark_first : ℕ → ℕ → Refused → Refused
 mark_first mark size r = pick (leb mark size) r (out_of_bounds mark size)
 
 -- of a type that is given as a byte: 10, then the type's refusal, then 9
-abbrev pub wrote_typed : TypeFound → DssWriter → (DssType → Sent) → ℕ → Wrote
-wrote_typed (Is t) w f size = wrote w size (length (written (f t)))
-wrote_typed (NoType r) w f size = NotWritten (mark_first w.fill size r)
+abbrev pub wrote_typed : Result DssType Refused → DssWriter → (DssType → Sent) → ℕ → Result DssWriter Refused
+wrote_typed (Ok t) w f size = wrote w size (length (written (f t)))
+wrote_typed (Err r) w f size = Err (mark_first w.fill size r)
 
 -- and what the room then holds
-abbrev pub room_typed : TypeFound → DssWriter → (DssType → Sent) → List ℕ → List ℕ
-room_typed (Is t) w f room = laid room w.fill (written (f t))
-room_typed (NoType r) w f room = room
+abbrev pub room_typed : Result DssType Refused → DssWriter → (DssType → Sent) → List ℕ → List ℕ
+room_typed (Ok t) w f room = laid room w.fill (written (f t))
+room_typed (Err r) w f room = room
 
 -- what a call answers, and what the lent words and the lent room then hold
-abbrev pub Sends : TypeFound → DssWriter → (DssType → Sent) → List ℕ → List ℕ → ℕ → List ℕ → List ℕ → Type 0
+abbrev pub Sends : Result DssType Refused → DssWriter → (DssType → Sent) → List ℕ → List ℕ → ℕ → List ℕ → List ℕ → Type 0
 Sends found w f room = Leaves (wrote_words (wrote_typed found w f (length room))) (room_typed found w f room)

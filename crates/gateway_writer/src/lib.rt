@@ -2,11 +2,10 @@
 // its correlation and its fill mark; a type is its byte, refused as by type_from_byte behind 10; yes is any byte but 0.
 #![tactic(auto)]
 
-ghost use Rattle.std.specs.Prelude.{◌≡◌, true, false};
+ghost use Rattle.std.specs.Prelude.{◌≡◌, true, false, Ok};
 ghost use Rattle.answer.specs.Rooms.{capped};
 ghost use Rattle.dss_head.specs.Heads.{type_at, bit};
 ghost use Rattle.dss_head.specs.declared.DssType.TheVariants.{Request as asRequest, Object as asObject, NoReply as asNoReply};
-ghost use Rattle.dss_head.specs.declared.TypeFound.TheVariants.{Is as is};
 ghost use Rattle.dss_frame.specs.Written.{written, frame_size};
 ghost use Rattle.dss_writer.specs.Writer.{fresh_writer, next_correlation};
 ghost use Rattle.gateway_words.specs.AnswerWords.{Answered, LaysInWords};
@@ -117,7 +116,7 @@ pub fn lattrugone_write_request(
     room: &mut [u8],
     words: &mut [u64],
 ) -> u8
-    ensures { Sends (is asRequest) (writer_of correlation_id fill) (frame_of correlation_id (yes chained) false payload.now) room.old words.old result room.new words.new }
+    ensures { Sends (Ok asRequest) (writer_of correlation_id fill) (frame_of correlation_id (yes chained) false payload.now) room.old words.old result room.new words.new }
 {
     let writer = DssWriter {
         correlation_id,
@@ -135,7 +134,7 @@ pub fn lattrugone_write_request_no_reply(
     room: &mut [u8],
     words: &mut [u64],
 ) -> u8
-    ensures { Sends (is asNoReply) (writer_of correlation_id fill) (frame_of correlation_id (yes chained) false payload.now) room.old words.old result room.new words.new }
+    ensures { Sends (Ok asNoReply) (writer_of correlation_id fill) (frame_of correlation_id (yes chained) false payload.now) room.old words.old result room.new words.new }
 {
     let writer = DssWriter {
         correlation_id,
@@ -153,7 +152,7 @@ pub fn lattrugone_write_object(
     room: &mut [u8],
     words: &mut [u64],
 ) -> u8
-    ensures { Sends (is asObject) (writer_of correlation_id fill) (frame_of correlation_id (yes chained) false payload.now) room.old words.old result room.new words.new }
+    ensures { Sends (Ok asObject) (writer_of correlation_id fill) (frame_of correlation_id (yes chained) false payload.now) room.old words.old result room.new words.new }
 {
     let writer = DssWriter {
         correlation_id,
@@ -171,7 +170,7 @@ pub fn lattrugone_write_object_same_corr(
     room: &mut [u8],
     words: &mut [u64],
 ) -> u8
-    ensures { Sends (is asObject) (writer_of correlation_id fill) (frame_of correlation_id (yes chained) true payload.now) room.old words.old result room.new words.new }
+    ensures { Sends (Ok asObject) (writer_of correlation_id fill) (frame_of correlation_id (yes chained) true payload.now) room.old words.old result room.new words.new }
 {
     let writer = DssWriter {
         correlation_id,
@@ -189,7 +188,7 @@ pub fn lattrugone_write_request_next_same_corr(
     room: &mut [u8],
     words: &mut [u64],
 ) -> u8
-    ensures { Sends (is asRequest) (writer_of correlation_id fill) (frame_of correlation_id (yes chained) true payload.now) room.old words.old result room.new words.new }
+    ensures { Sends (Ok asRequest) (writer_of correlation_id fill) (frame_of correlation_id (yes chained) true payload.now) room.old words.old result room.new words.new }
 {
     let writer = DssWriter {
         correlation_id,

@@ -3,13 +3,12 @@
 
 ghost use Rattle.answer.specs.Rooms.{capped};
 ghost use Rattle.dss_frame.specs.Written.{frame_size, written};
-ghost use Rattle.std.specs.Prelude.{false, true, ◌≡◌};
+ghost use Rattle.std.specs.Prelude.{false, true, ◌≡◌, Ok};
 ghost use Rattle.dss_writer.specs.Writer.{fresh_writer, next_correlation};
 ghost use Rattle.gateway_writer.specs.WriterWords.{Sends, frame_of, writer_of, yes};
 ghost use Rattle.dss_head.specs.Heads.{bit, type_at};
 ghost use Rattle.gateway_words.specs.AnswerWords.{LaysInWords};
 ghost use Rattle.dss_head.specs.declared.DssType.TheVariants.{Request as asRequest, Object as asObject, NoReply as asNoReply};
-ghost use Rattle.dss_head.specs.declared.TypeFound.TheVariants.{Is as is};
 
 #[unsafe(no_mangle)]
 pub extern "C" fn lattrugone_frame_size(payload_len: usize) -> usize
@@ -80,7 +79,7 @@ pub extern "C" fn lattrugone_write_request(
     room: &mut [u8],
     words: &mut [u64],
 ) -> u8
-    ensures { Sends (is asRequest) (writer_of correlation_id fill) (frame_of correlation_id (yes chained) false payload.now) room.old words.old result room.new words.new }
+    ensures { Sends (Ok asRequest) (writer_of correlation_id fill) (frame_of correlation_id (yes chained) false payload.now) room.old words.old result room.new words.new }
 {
     gateway_writer::lattrugone_write_request(correlation_id, fill, chained, payload, room, words)
 }
@@ -94,7 +93,7 @@ pub extern "C" fn lattrugone_write_request_no_reply(
     room: &mut [u8],
     words: &mut [u64],
 ) -> u8
-    ensures { Sends (is asNoReply) (writer_of correlation_id fill) (frame_of correlation_id (yes chained) false payload.now) room.old words.old result room.new words.new }
+    ensures { Sends (Ok asNoReply) (writer_of correlation_id fill) (frame_of correlation_id (yes chained) false payload.now) room.old words.old result room.new words.new }
 {
     gateway_writer::lattrugone_write_request_no_reply(
         correlation_id,
@@ -115,7 +114,7 @@ pub extern "C" fn lattrugone_write_object(
     room: &mut [u8],
     words: &mut [u64],
 ) -> u8
-    ensures { Sends (is asObject) (writer_of correlation_id fill) (frame_of correlation_id (yes chained) false payload.now) room.old words.old result room.new words.new }
+    ensures { Sends (Ok asObject) (writer_of correlation_id fill) (frame_of correlation_id (yes chained) false payload.now) room.old words.old result room.new words.new }
 {
     gateway_writer::lattrugone_write_object(correlation_id, fill, chained, payload, room, words)
 }
@@ -129,7 +128,7 @@ pub extern "C" fn lattrugone_write_object_same_corr(
     room: &mut [u8],
     words: &mut [u64],
 ) -> u8
-    ensures { Sends (is asObject) (writer_of correlation_id fill) (frame_of correlation_id (yes chained) true payload.now) room.old words.old result room.new words.new }
+    ensures { Sends (Ok asObject) (writer_of correlation_id fill) (frame_of correlation_id (yes chained) true payload.now) room.old words.old result room.new words.new }
 {
     gateway_writer::lattrugone_write_object_same_corr(
         correlation_id,
@@ -150,7 +149,7 @@ pub extern "C" fn lattrugone_write_request_next_same_corr(
     room: &mut [u8],
     words: &mut [u64],
 ) -> u8
-    ensures { Sends (is asRequest) (writer_of correlation_id fill) (frame_of correlation_id (yes chained) true payload.now) room.old words.old result room.new words.new }
+    ensures { Sends (Ok asRequest) (writer_of correlation_id fill) (frame_of correlation_id (yes chained) true payload.now) room.old words.old result room.new words.new }
 {
     gateway_writer::lattrugone_write_request_next_same_corr(
         correlation_id,

@@ -1,5 +1,6 @@
 -- The lists of a few inputs: document 01's own, one whose second frame is lost to the refusal behind it, one that ends in a frame
 -- that is never whole, both sides of 65,536 bytes, and the room that the programs lend.
+use Rattle.std.specs.Prelude.{Ok}
 use mathlib.Core.Path.{◌≡◌, refl, ap, ◌∙◌}
 use mathlib.Core.List.{List, [], ◌∷◌, ◌++◌}
 use Prim.Native.Nat.{ℕ}
@@ -7,7 +8,6 @@ use lib.ListN.{length, replicate, length-replicate}
 use Rattle.wire.specs.Bytes.{laid, Octets}
 use Rattle.wire.proofs.OctetLaws.{octets_tested}
 use Rattle.answer.specs.Rooms.{laid_at_start}
-use Rattle.answer.specs.declared.Laid.TheVariants.{Bytes}
 use Rattle.text.specs.Texts.{text}
 use Rattle.dss_frame.specs.declared.Rules.TheVariants.{Reader, Salvage}
 use Rattle.listing.specs.ListTexts.{list_text}
@@ -63,8 +63,8 @@ unfolding request reply
 octets = octets_tested (request ++ reply) refl
 
 -- the list in the room that the programs lend
-lent : laid_at_start 0 (length (zeros 720000)) (length (list_text Reader (request ++ reply))) ≡ Bytes 89
+lent : laid_at_start 0 (length (zeros 720000)) (length (list_text Reader (request ++ reply))) ≡ Ok 89
 lent =
     never_short Reader (request ++ reply) (zeros 720000) octets (zeros_length 720000) {after = laid (zeros 720000) 0 (list_text Reader (request ++ reply))}
     (record { answers = refl; room_is = refl })
-    ∙ ap (λ (t : List ℕ). Bytes (length t)) given
+    ∙ ap (λ (t : List ℕ). Ok (length t)) given

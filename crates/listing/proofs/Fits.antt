@@ -1,4 +1,5 @@
 -- The list of an input is at most 720,000 bytes: in a room of that many, as the programs lend, it is always laid down.
+use Rattle.std.specs.Prelude.{Result, Ok, Err}
 use Prim.Native.Nat.{ℕ, zero, suc, ◌+◌, ◌*◌, ◌-◌, ◌≤◌}
 use native.Mathlib.Omega.{arith}
 use mathlib.Core.Path.{◌≡◌, refl, ap, ◌∙◌}
@@ -14,8 +15,6 @@ use Rattle.wire.proofs.Splicing.{laid_fits, splice_written}
 use Rattle.answer.specs.Numbers.{not_whole}
 use Rattle.answer.specs.Rooms.{Lays}
 use Rattle.answer.specs.declared.Refused.{Refused}
-use Rattle.answer.specs.declared.Laid.{Laid}
-use Rattle.answer.specs.declared.Laid.TheVariants.{Bytes, Refused as NotLaid}
 use Rattle.dss_frame.specs.declared.Rules.{Rules}
 use Rattle.dss_frame.specs.declared.Rules.TheVariants.{Reader, Salvage}
 use Rattle.dss_frame.specs.Segments.{Walk, end_of, frame_walk}
@@ -129,18 +128,18 @@ module _ (rules : Rules) (s room : List ℕ) (o : Octets s) (large : length room
   there = omega (arith, fits rules s o)
 
   -- the list is laid down
-  pub never_short : {r : Laid} {after : List ℕ} → Lays (list_text rules s) room r after → r ≡ Bytes (length (list_text rules s))
+  pub never_short : {r : Result ℕ Refused} {after : List ℕ} → Lays (list_text rules s) room r after → r ≡ Ok (length (list_text rules s))
   never_short w = w.answers ∙ pick_yes _ _ (le-leb (length (list_text rules s)) (length room) (omega (arith, there)))
 
   -- and never refused
-  pub never_refused : {x : Refused} {after : List ℕ} → Lays (list_text rules s) room (NotLaid x) after → ⊥
+  pub never_refused : {x : Refused} {after : List ℕ} → Lays (list_text rules s) room (Err x) after → ⊥
   never_refused {x} w =
-      let e : NotLaid x ≡ Bytes (length (list_text rules s)) = never_short w in
+      let e : Err x ≡ Ok (length (list_text rules s)) = never_short w in
       let z : ◌≡◌ {A = ℕ} 0 1 = cc in
       omega arith
 
   -- as many bytes as are answered are the list
-  pub shown : {r : Laid} {after : List ℕ} → Lays (list_text rules s) room r after → take (length (list_text rules s)) after ≡ list_text rules s
+  pub shown : {r : Result ℕ Refused} {after : List ℕ} → Lays (list_text rules s) room r after → take (length (list_text rules s)) after ≡ list_text rules s
   shown w =
       let z : length (list_text rules s) ≡ 0 + length (list_text rules s) = omega arith in
       ap (take (length (list_text rules s))) (w.room_is ∙ laid_fits room 0 (list_text rules s) there)
@@ -148,6 +147,6 @@ module _ (rules : Rules) (s room : List ℕ) (o : Octets s) (large : length room
       ∙ splice_written room 0 (list_text rules s) (omega arith)
 
 -- over the contract itself
-pub list_never_short : (κs : Lfts 2) (rules : Rules) (run : Bor (List ℕ)) (room : MutBor (List ℕ)) (r : Laid) (l : List ℕ) → Octets run.now → length room.now ≡ 720000
-    → list.Post κs (rules, (run, (room, tt))) r (rules, (run, (at_last room l, tt))) → r ≡ Bytes (length (list_text rules run.now))
+pub list_never_short : (κs : Lfts 2) (rules : Rules) (run : Bor (List ℕ)) (room : MutBor (List ℕ)) (r : Result ℕ Refused) (l : List ℕ) → Octets run.now → length room.now ≡ 720000
+    → list.Post κs (rules, (run, (room, tt))) r (rules, (run, (at_last room l, tt))) → r ≡ Ok (length (list_text rules run.now))
 list_never_short κs rules run room r l o h p = never_short rules run.now room.now o h p

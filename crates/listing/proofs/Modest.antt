@@ -1,4 +1,5 @@
 -- What a reading gives is small: the numbers of its line are below 100,000 where the run is at most 65,536 bytes.
+use Rattle.std.specs.Prelude.{Result, Ok, Err}
 use Prim.Native.Nat.{ℕ, zero, suc, ◌+◌, ◌-◌, ◌≤◌, ◌<◌}
 use native.Mathlib.Omega.{arith}
 use mathlib.Core.Path.{◌≡◌, refl}
@@ -16,10 +17,6 @@ use Rattle.dss_head.specs.Heads.{head_with, head_at}
 use Rattle.dss_head.proofs.TypeLaws.{type_by}
 use Rattle.dss_head.specs.declared.DssType.{DssType}
 use Rattle.dss_head.specs.declared.DssHeader.{DssHeader}
-use Rattle.dss_head.specs.declared.TypeFound.{TypeFound}
-use Rattle.dss_head.specs.declared.TypeFound.TheVariants.{Is}
-use Rattle.dss_head.specs.declared.HeadFound.{HeadFound}
-use Rattle.dss_head.specs.declared.HeadFound.TheVariants.{Head, Refused as Refuses}
 use Rattle.dss_frame.specs.declared.Rules.{Rules}
 use Rattle.dss_frame.specs.declared.Rules.TheVariants.{Reader, Salvage}
 use Rattle.dss_frame.specs.Segments.{Segment, Walk, whole, behind, continuation, first, continuations, frame_walk, payload_of, end_of}
@@ -68,9 +65,9 @@ pub record Small (s : List ℕ) (r : Refused) : Type 0 where
   pub value : get_or (values_of r.why) 0 0 < 100000
 
 -- what holds of a head that is found, or of its refusal
-data OfHead (s : List ℕ) : HeadFound → Type 0 where
-  a_head : (h : DssHeader) → h.correlation_id < 65536 → OfHead s (Head h)
-  no_head : (r : Refused) → Small s r → OfHead s (Refuses r)
+data OfHead (s : List ℕ) : Result DssHeader Refused → Type 0 where
+  a_head : (h : DssHeader) → h.correlation_id < 65536 → OfHead s (Ok h)
+  no_head : (r : Refused) → Small s r → OfHead s (Err r)
 
 -- what holds of a look, if it refuses
 abbrev OfLook : List ℕ → Look → Type 0
@@ -92,7 +89,7 @@ module _ (s : List ℕ) (o : Octets s) where
   low_small : (q : ℕ) → q ≤ length s → be16 s q < 6 → Small s (record { why = LengthTooShort (be16 s q); place = q })
   low_small q h k = record { number = omega arith; place = h; value = omega arith }
 
-  head_typed : (at : ℕ) (t : DssType) → OfHead s (head_with s at (Is t))
+  head_typed : (at : ℕ) (t : DssType) → OfHead s (head_with s at (Ok t))
   head_typed at t = let z : be16 s (at + 4) < 65536 = omega (arith, o (at + 4), o (at + 4 + 1)) in a_head _ z
 
   head_of : (at : ℕ) → at ≤ length s → OfHead s (head_at s at)
@@ -100,13 +97,13 @@ module _ (s : List ℕ) (o : Octets s) where
       let format : ℕ = get_or s (at + 3) 0 in
       pick_by (OfHead s) (ltb (length s - at) 6) _ _ (λ e. no_head _ (record { number = omega arith; place = h; value = omega arith }))
       (λ e. pick_by (OfHead s) (eqb (get_or s (at + 2) 0) 0xD0) _ _
-      (λ e₁. type_by (λ (t : TypeFound). OfHead s (head_with s at t)) format at (λ t _. head_typed at t)
+      (λ e₁. type_by (λ (t : Result DssType Refused). OfHead s (head_with s at t)) format at (λ t _. head_typed at t)
       (λ _. no_head _ (record { number = omega arith; place = h; value = omega arith })))
       (λ e₁. no_head _ (record { number = omega arith; place = h; value = omega (arith, o (at + 2)) })))
 
   -- ---- a look
 
-  look_at_lem : (rules : Rules) (t : DssType) (extended : Bool) (q : ℕ) (h : HeadFound) → q ≤ length s → OfHead s h → OfLook s (look_at rules s t extended q h)
+  look_at_lem : (rules : Rules) (t : DssType) (extended : Bool) (q : ℕ) (h : Result DssHeader Refused) → q ≤ length s → OfHead s h → OfLook s (look_at rules s t extended q h)
   look_at_lem rules t extended q h i (no_head r k) = refusal_small rules s r k
   look_at_lem rules t extended q h i (a_head head k) =
       pick_by (OfLook s) (eqb (be16 s q) 65535) _ _ (λ e. tt)
@@ -140,7 +137,7 @@ module _ (s : List ℕ) (o : Octets s) where
       by_look l (takes g c t) i go = go g c t
       by_look l (stops r) i go = a_refusal r i
 
-  head_modest : (rules : Rules) (p : ℕ) (gs : List Segment) (h : HeadFound) → p ≤ length s → OfHead s h → Few p gs → end_of p gs ≤ length s → Modest s p (read_head rules s p gs h)
+  head_modest : (rules : Rules) (p : ℕ) (gs : List Segment) (h : Result DssHeader Refused) → p ≤ length s → OfHead s h → Few p gs → end_of p gs ≤ length s → Modest s p (read_head rules s p gs h)
   unfolding absorb
   head_modest rules p gs h i (no_head r k) b c = a_refusal r k
   head_modest rules p gs h i (a_head head k) b c =

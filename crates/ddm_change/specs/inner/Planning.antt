@@ -1,5 +1,5 @@
 -- What is known of a request before it is laid down. `s` is the frame given.
-use Rattle.std.specs.Prelude.{ℕ, ◌+◌, ◌-◌, ◌≤◌, ◌≡◌, List, ◌++◌, length, drop}
+use Rattle.std.specs.Prelude.{ℕ, ◌+◌, ◌-◌, ◌≤◌, ◌≡◌, List, ◌++◌, length, drop, Result, Ok, Err}
 use Rattle.wire.specs.Bytes.{part, be16}
 use Rattle.answer.specs.Rooms.{capped}
 use Rattle.dss_frame.specs.declared.Rules.TheVariants.{Reader}
@@ -11,17 +11,17 @@ use Rattle.ddm_change.specs.Change.{Change, changed, faulty, lacking, change_of,
 use Rattle.ddm_change.specs.Request.{Changed, lays_frame, refuses_it, reframed, framed_of, request_of}
 use Rattle.ddm_change.specs.inner.Carried.{SoundCarriage, carried, place_of}
 use Rattle.ddm_change.specs.declared.Carriage.{Carriage}
-use Rattle.ddm_change.specs.declared.Alone as declared
-use Rattle.ddm_change.specs.declared.Alone.TheVariants.{Frame as Stands, Refused as NotAlone}
 use Rattle.ddm_change.specs.declared.Plan.{Plan}
-use Rattle.ddm_change.specs.declared.Planned.{Planned}
-use Rattle.ddm_change.specs.declared.Planned.TheVariants.{Lay, Refused as NotPlanned}
+use Rattle.answer.specs.declared.Refused.{Refused}
 
 -- ---- the frame
 
-abbrev pub alone_of : Read → declared.Alone
-alone_of (frame f) = Stands (end_of 0 f.segments) (length f.segments)
-alone_of (refused r) = NotAlone r
+abbrev pub alone : ℕ → ℕ → Alone
+alone end segments = record { end = end; segments = segments }
+
+abbrev pub alone_of : Read → Result Alone Refused
+alone_of (frame f) = Ok (alone (end_of 0 f.segments) (length f.segments))
+alone_of (refused r) = Err r
 
 -- the one frame stands there, up to `end`, in so many segments
 pub record Standing (s : List ℕ) (end segments : ℕ) : Type 0 where
@@ -79,9 +79,9 @@ pub record LayingRequest (s : List ℕ) (cp n : ℕ) (p : Plan) : Type 0 where
   pub size : p.payload_len ≡ capped (built_size (data_size p n))
   pub comes : (new : List ℕ) → length new ≡ n → request_of s cp new ≡ lays_frame (reframed s (payload_after s p cp new))
 
-abbrev pub Plans : List ℕ → ℕ → ℕ → Planned → Type 0
-Plans s cp n (Lay p) = LayingRequest s cp n p
-Plans s cp n (NotPlanned r) = (new : List ℕ) → length new ≡ n → request_of s cp new ≡ refuses_it r
+abbrev pub Plans : List ℕ → ℕ → ℕ → Result Plan Refused → Type 0
+Plans s cp n (Ok p) = LayingRequest s cp n p
+Plans s cp n (Err r) = (new : List ℕ) → length new ≡ n → request_of s cp new ≡ refuses_it r
 
-abbrev pub plan_unsound : ℕ → Planned
-plan_unsound place = NotPlanned (unsound place)
+abbrev pub plan_unsound : ℕ → Result Plan Refused
+plan_unsound place = Err (unsound place)

@@ -1,5 +1,6 @@
 -- `ddm_length::extended_at` meets its contract: each return rewrites with the tests that led there, and the number is what
 -- `number_of` gives.
+use Rattle.std.specs.Prelude.{Ok}
 use Prim.Native.Nat.{ℕ, ◌+◌, ◌-◌, ◌^◌, ◌≤◌, ◌<◌}
 use native.Mathlib.Omega.{arith}
 use mathlib.Core.Path.{◌≡◌, sym, ◌∙◌}
@@ -9,13 +10,13 @@ use borrow.Author.Tests.{lt-ltb, le-ltb, lt-leb, le-leb}
 use Rattle.wire.specs.Bytes.{spelled}
 use Rattle.wire.proofs.WireLaws.{pick_yes, pick_no}
 use Rattle.answer.specs.declared.Refusal.TheVariants.{LengthTooLarge}
-use Rattle.ddm_length.specs.declared.Marshaled.TheVariants.{Takes}
 use Rattle.ddm_length.specs.Lengths.{refuse, extended}
 use Rattle.ddm_length.proofs.NumberSums.{number_is, number_large}
 use Rattle.ddm_length.proofs.extended_at.Goals as goal
+use Rattle.ddm_length.specs.Lengths.{takes}
 
 module _ (b : List ℕ) (place header : ℕ) (lo : 4 ≤ header) (there : header ≤ length b) where
-  within : (n : ℕ) → spelled 0 (take (header - 4) (drop 4 b)) ≡ n → header + n < 2 ^ 64 → extended b place header ≡ Takes (header + n) header
+  within : (n : ℕ) → spelled 0 (take (header - 4) (drop 4 b)) ≡ n → header + n < 2 ^ 64 → extended b place header ≡ Ok (takes (header + n) header)
   within n e h =
       pick_no _ _ (le-ltb header 4 lo) ∙ pick_yes _ _ (le-leb header (length b) there)
       ∙ rw e (pick_yes _ _ (lt-ltb (header + n) (2 ^ 64) h))

@@ -1,9 +1,7 @@
 -- The number that some bytes spell, as the loop that reads an extended length makes it.
-use Rattle.std.specs.Prelude.{ℕ, ◌^◌, List, ltb}
+use Rattle.std.specs.Prelude.{ℕ, ◌^◌, List, ltb, Option, Some, None}
 use Rattle.wire.specs.Bytes.{pick, spelled}
-use Rattle.ddm_length.specs.declared.Number.{Number}
-use Rattle.ddm_length.specs.declared.Number.TheVariants.{Is, TooLarge}
 
-unfoldable pub spelled_number : List ℕ → Number
+unfoldable pub spelled_number : List ℕ → Option ℕ
 unfolding spelled
-spelled_number bs = pick (ltb (spelled 0 bs) (2 ^ 64)) (Is (spelled 0 bs)) TooLarge
+spelled_number bs = pick (ltb (spelled 0 bs) (2 ^ 64)) (Some (spelled 0 bs)) None

@@ -1,4 +1,5 @@
 -- `ddm_object::object_data` meets its contract: the laws of which part the data are, by the record that was found or its refusal.
+use Rattle.std.specs.Prelude.{Ok}
 use Prim.Native.Nat.{ℕ, ◌+◌, ◌-◌, ◌≤◌}
 use native.Mathlib.Omega.{arith}
 use mathlib.Core.Path.{◌≡◌, refl, sym, ap}
@@ -9,7 +10,6 @@ use Rattle.ddm_object.proofs.ObjectRecords.{record_of, refused_of}
 use Rattle.ddm_object.proofs.DataLaws.{given_run, run_room}
 use Rattle.ddm_object.proofs.PartLaws.{data_beyond, data_refused, data_short, data_work, data_run}
 use Rattle.ddm_object.specs.declared.DdmObject.{DdmObject}
-use Rattle.ddm_object.specs.declared.ObjectFound.TheVariants.{Object as Gives}
 use Rattle.ddm_object.specs.inner.RecordsGiven.{record_found}
 use Rattle.ddm_object.proofs.object_data.Goals as goal
 
@@ -24,7 +24,7 @@ back : (l : List ℕ) (a n : ℕ) → take ((a + n) - a) (drop a l) ≡ take n (
 back l a n = let z : (a + n) - a ≡ n = omega arith in ap (λ (k : ℕ). take k (drop a l)) z
 
 -- data in the run end within it
-in_run : (run work : List ℕ) (at : ℕ) (rec : DdmObject) → at ≤ length run → record_found (drop at run) at ≡ Gives rec → rec.in_work ≡ false
+in_run : (run work : List ℕ) (at : ℕ) (rec : DdmObject) → at ≤ length run → record_found (drop at run) at ≡ Ok rec → rec.in_work ≡ false
     → rec.data_at + rec.data_len ≤ length run
 in_run run work at rec h e i = run_room run at work rec (given_run run at (length work) rec h (record_of _ _ _ e) i) i
 

@@ -1,13 +1,13 @@
 -- `dss_measure::measure` meets its contract: 10 and 1 by their laws, and a whole frame by what `measure_whole` ensures.
+use Rattle.std.specs.Prelude.{Err}
 use mathlib.Core.Path.{sym, ap, ◌∙◌}
-use Rattle.dss_measure.specs.declared.Measured.TheVariants.{Refused as NotMeasured}
 use Rattle.dss_measure.proofs.Readings.{measured_beyond, measured_short, measured_dead}
 use Rattle.dss_measure.proofs.measure.Goals as goal
 
 pub returns-then-run-at : goal.returns-then-run-at
 returns-then-run-at c =
     let a = c.args in
-    ap NotMeasured c.out_of_bounds.ensures ∙ sym (measured_beyond a.rules a.run.now a.at c.if-run-at.true)
+    ap Err c.out_of_bounds.ensures ∙ sym (measured_beyond a.rules a.run.now a.at c.if-run-at.true)
 
 pub returns-in-Short : goal.returns-in-Short
 returns-in-Short c =

@@ -2,7 +2,6 @@
 use mathlib.Core.Path.{sym, ap, ◌∙◌}
 use Rattle.dss_reader.proofs.MeasuredFrames.{all_counted, all_not}
 use Rattle.dss_reader.proofs.GatheredFrames.{answers_refused, wide_bytes, wide_records, answers_none, answers_frames}
-use Rattle.dss_reader.specs.declared.FramesRead.TheVariants.{Refused as NoneRead}
 use Rattle.dss_reader.proofs.measure_frames.Goals as goal
 
 pub returns-then-size-bytes : goal.returns-then-size-bytes
@@ -18,7 +17,7 @@ returns-then-rows-count c =
     answers_none a.size a.rows n _ (wide_records a.size a.rows n c.if-rows-count.true) c.no_room-then-rows-count.ensures
 
 pub returns-in-Refused : goal.returns-in-Refused
-returns-in-Refused c = ap (NoneRead c.in-Refused.refused) c.left_at-reader.ensures ∙ answers_refused _ _ _ _ _ (all_not _ _ _ (sym c.in-Refused.ensures))
+returns-in-Refused c = ap (⟪NoneRead⟫ c.in-Refused.refused) c.left_at-reader.ensures ∙ answers_refused _ _ _ _ _ (all_not _ _ _ (sym c.in-Refused.ensures))
 
 pub returns-else-rows-count : goal.returns-else-rows-count
 returns-else-rows-count c =

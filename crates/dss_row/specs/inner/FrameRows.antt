@@ -1,6 +1,6 @@
 -- The records of a run's frames, from a place on: document 01, "Reading", "Frames land in a lent row of frame records, payloads end
 -- to end in a lent room".
-use Rattle.std.specs.Prelude.{ℕ, zero, suc, ◌+◌, ◌-◌, List, [], ◌∷◌, eqb, length}
+use Rattle.std.specs.Prelude.{ℕ, zero, suc, ◌+◌, ◌-◌, List, [], ◌∷◌, eqb, length, Option, Some, None}
 use Rattle.wire.specs.Bytes.{pick}
 use Rattle.dss_frame.specs.Segments.{payload_of, end_of}
 use Rattle.dss_frame.specs.Reading.{Read, frame, refused, read_at}
@@ -8,24 +8,21 @@ use Rattle.dss_frame.specs.FrameRecords.{frame_record}
 use Rattle.dss_frame.specs.declared.DssFrame.{DssFrame}
 use Rattle.dss_frame.specs.declared.Rules.TheVariants.{Reader}
 use Rattle.dss_frame.specs.declared.RowPlace.{RowPlace}
-use Rattle.dss_row.specs.declared.RecordFound.{RecordFound}
-use Rattle.dss_row.specs.declared.RecordFound.TheVariants.{One, End}
 
 -- a frame's record, and where the next one is
-abbrev pub found_of : List ℕ → RowPlace → Read → RecordFound
+abbrev pub found_of : List ℕ → RowPlace → Read → Option (DssFrame × RowPlace)
 found_of s x (frame f) =
-    One (frame_record s x.at x.payload_at f)
-    (record { at = end_of x.at f.segments; payload_at = x.payload_at + length (payload_of s f.segments); left = x.left - 1 })
-found_of s x (refused r) = End
+    Some (frame_record s x.at x.payload_at f, record { at = end_of x.at f.segments; payload_at = x.payload_at + length (payload_of s f.segments); left = x.left - 1 })
+found_of s x (refused r) = None
 
 -- none where no more are to come
-unfoldable pub record_at : List ℕ → RowPlace → RecordFound
+unfoldable pub record_at : List ℕ → RowPlace → Option (DssFrame × RowPlace)
 unfolding payload_of end_of read_at
-record_at s x = pick (eqb x.left 0) End (found_of s x (read_at Reader s x.at))
+record_at s x = pick (eqb x.left 0) None (found_of s x (read_at Reader s x.at))
 
-abbrev pub one_more : RecordFound → (RowPlace → List DssFrame) → List DssFrame
-one_more (One r next) more = r ∷ more next
-one_more End more = []
+abbrev pub one_more : Option (DssFrame × RowPlace) → (RowPlace → List DssFrame) → List DssFrame
+one_more (Some (r, next)) more = r ∷ more next
+one_more None more = []
 
 -- the records from a place on, at most n of them
 unfoldable pub records_from : ℕ → List ℕ → RowPlace → List DssFrame

@@ -1,5 +1,6 @@
 -- `dss_salvage_call::lay_payloads` meets its contract: what is taken is what is measured there, and what is refused is stepped over, or
 -- ends the walk.
+use Rattle.std.specs.Prelude.{Err}
 use Prim.Native.Nat.{ℕ, ◌≤◌}
 use native.Mathlib.Omega.{arith}
 use mathlib.Core.Path.{◌≡◌, refl, sym, ap, ◌∙◌}
@@ -8,7 +9,6 @@ use lib.ListN.{length}
 use Rattle.wire.specs.Bytes.{splice}
 use Rattle.wire.proofs.Splicing.{splice_length}
 use Rattle.dss_frame.specs.declared.Rules.TheVariants.{Salvage}
-use Rattle.dss_measure.specs.declared.Measured.TheVariants.{Refused as NotMeasured}
 use Rattle.dss_measure.specs.Measure.{measured_at}
 use Rattle.dss_measure.proofs.Measures.{measured_not}
 use Rattle.answer.specs.declared.Refused.{Refused}
@@ -69,7 +69,7 @@ loop-measure-preserved c =
     taken_over _ _ _ _ _ c.loop-measure.invariant _ _ _ _ _ (measured_not Salvage _ _ _ e) c.in-Refused.ensures w
 
 -- a refusal is no frame
-never : (s : List ℕ) (p : ℕ) (r : Refused) (m : FrameMeasure) → measured_at Salvage s p ≡ NotMeasured r → OneFrame m ≡ over_at s p r → ⊥
+never : (s : List ℕ) (p : ℕ) (r : Refused) (m : FrameMeasure) → measured_at Salvage s p ≡ Err r → OneFrame m ≡ over_at s p r → ⊥
 never s p r m e k =
     let i = (on_frame _ _ _ (sym (k ∙ sym (step_refused _ _ _ e)))).measured.reads in
     let j = measured_not Salvage _ _ _ e in

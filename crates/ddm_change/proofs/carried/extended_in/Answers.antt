@@ -1,5 +1,6 @@
 -- `ddm_change::carried::extended_in` meets its contract: each return rewrites with the tests that led there, and the number is what
 -- `number_in` gives.
+use Rattle.std.specs.Prelude.{Ok}
 use Prim.Native.Nat.{ℕ, ◌+◌, ◌-◌, ◌^◌, ◌≤◌, ◌<◌}
 use native.Mathlib.Omega.{arith}
 use mathlib.Core.Path.{◌≡◌, sym, ◌∙◌, ap}
@@ -9,12 +10,12 @@ use borrow.Author.Tests.{lt-ltb, le-ltb, lt-leb, le-leb}
 use Rattle.wire.specs.Bytes.{part, spelled}
 use Rattle.wire.proofs.WireLaws.{pick_yes, pick_no}
 use Rattle.answer.specs.declared.Refusal.TheVariants.{BufferTooShort, LengthTooLarge}
-use Rattle.ddm_length.specs.declared.Marshaled.TheVariants.{Takes}
 use Rattle.ddm_length.specs.Lengths.{refuse, extended, extended_total}
 use Rattle.ddm_length.proofs.NumberSums.{number_is, number_large}
 use Rattle.ddm_change.specs.inner.Carried.{carried}
 use Rattle.ddm_change.proofs.CarriedLaws.{drop_part}
 use Rattle.ddm_change.proofs.carried.extended_in.Goals as goal
+use Rattle.ddm_length.specs.Lengths.{takes}
 
 module _ (v : List ℕ) (at place header : ℕ) (lo : 4 ≤ header) where
   short : (there : ℕ) → there ≡ length v - at → there < header → refuse place (BufferTooShort header there) ≡ extended (drop at v) place header
@@ -32,7 +33,7 @@ module _ (v : List ℕ) (at place header : ℕ) (lo : 4 ≤ header) where
         pick_no _ _ (le-ltb header 4 lo) ∙ pick_yes _ _ (le-leb header (length (drop at v)) (omega (arith, length-drop at v)))
         ∙ ap (λ (x : List ℕ). extended_total place header (header + spelled 0 x)) (drop_part v at 4 header)
 
-    within : (m : ℕ) → n ≡ m → header + m < 2 ^ 64 → extended (drop at v) place header ≡ Takes (header + m) header
+    within : (m : ℕ) → n ≡ m → header + m < 2 ^ 64 → extended (drop at v) place header ≡ Ok (takes (header + m) header)
     within m e h = number ∙ rw e (pick_yes _ _ (lt-ltb (header + m) (2 ^ 64) h))
 
     too_large : 2 ^ 64 ≤ header + n → extended (drop at v) place header ≡ refuse place (LengthTooLarge header)

@@ -1,4 +1,5 @@
 -- `ddm_change::carried::length_in` meets its contract: each return rewrites with the tests that led there.
+use Rattle.std.specs.Prelude.{Result, Ok}
 use Prim.Native.Nat.{ℕ, ◌-◌, ◌≤◌, ◌<◌}
 use native.Mathlib.Omega.{arith}
 use mathlib.Core.Path.{◌≡◌, sym, ◌∙◌, ap}
@@ -8,12 +9,13 @@ use borrow.Author.Tests.{lt-ltb, le-ltb, eq-eqb, ne_eqb}
 use Rattle.wire.specs.Bytes.{be16}
 use Rattle.wire.proofs.WireLaws.{pick_yes, pick_no}
 use Rattle.answer.specs.declared.Refusal.TheVariants.{BufferTooShort}
-use Rattle.ddm_length.specs.declared.Marshaled.{Marshaled}
-use Rattle.ddm_length.specs.declared.Marshaled.TheVariants.{Takes}
 use Rattle.ddm_length.specs.Lengths.{refuse, extended, marshaled}
 use Rattle.ddm_length.proofs.MarkerPieces.{be16_drop}
 use Rattle.ddm_change.specs.inner.Carried.{carried}
 use Rattle.ddm_change.proofs.carried.length_in.Goals as goal
+use Rattle.ddm_length.specs.declared.Marshaled.{Marshaled}
+use Rattle.answer.specs.declared.Refused.{Refused}
+use Rattle.ddm_length.specs.Lengths.{takes}
 
 module _ (v : List ℕ) (at place n : ℕ) (e : n ≡ length v) where
   len : n - at ≡ length (drop at v)
@@ -30,7 +32,7 @@ module _ (v : List ℕ) (at place n : ℕ) (e : n ≡ length v) where
     is : be16 (drop at v) 0 ≡ raw
     is = be16_drop v at ∙ sym r
 
-    all : raw ≡ 0x8004 → Takes (n - at) 4 ≡ marshaled (drop at v) place
+    all : raw ≡ 0x8004 → Ok (takes (n - at) 4) ≡ marshaled (drop at v) place
     unfolding marshaled
     all h = rw len (sym (pick_no _ _ (le-ltb (length (drop at v)) 4 four_there) ∙ pick_yes _ _ (eq-eqb (be16 (drop at v) 0) 0x8004 (is ∙ h))))
 
@@ -38,14 +40,14 @@ module _ (v : List ℕ) (at place n : ℕ) (e : n ≡ length v) where
       not_all : ¬ (be16 (drop at v) 0 ≡ 0x8004)
       not_all h = other (sym is ∙ h)
 
-      inline : raw < 0x8000 → Takes raw 4 ≡ marshaled (drop at v) place
+      inline : raw < 0x8000 → Ok (takes raw 4) ≡ marshaled (drop at v) place
       unfolding marshaled
       inline h =
-          ap (λ (m : ℕ). Takes m 4) (sym is)
+          ap (λ (m : ℕ). Ok (takes m 4)) (sym is)
           ∙ sym (pick_no _ _ (le-ltb (length (drop at v)) 4 four_there) ∙ pick_no _ _ (ne_eqb (be16 (drop at v) 0) 0x8004 not_all)
           ∙ pick_yes _ _ (lt-ltb (be16 (drop at v) 0) 0x8000 (omega (arith, is))))
 
-      wide : (m : Marshaled) → m ≡ extended (drop at v) place (raw - 0x8000) → 0x8000 ≤ raw → m ≡ marshaled (drop at v) place
+      wide : (m : Result Marshaled Refused) → m ≡ extended (drop at v) place (raw - 0x8000) → 0x8000 ≤ raw → m ≡ marshaled (drop at v) place
       unfolding marshaled
       wide m k h =
           k ∙ ap (λ (m : ℕ). extended (drop at v) place (m - 0x8000)) (sym is)

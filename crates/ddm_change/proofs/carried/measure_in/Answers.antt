@@ -1,5 +1,6 @@
 -- `ddm_change::carried::measure_in` meets its contract: it goes by what `length_in` says. A length below its header is an inline one,
 -- and so has two bytes, and four bytes stand there.
+use Rattle.std.specs.Prelude.{Ok}
 use Prim.Native.Nat.{ℕ, ◌+◌, ◌-◌, ◌≤◌, ◌<◌}
 use native.Mathlib.Omega.{arith}
 use mathlib.Core.Path.{◌≡◌, sym, ◌∙◌, ap}
@@ -9,19 +10,19 @@ use borrow.Author.Tests.{lt-ltb, le-ltb, lt-leb, le-leb}
 use Rattle.wire.specs.Bytes.{be16}
 use Rattle.wire.proofs.WireLaws.{pick_yes, pick_no}
 use Rattle.answer.specs.declared.Refusal.TheVariants.{BufferTooShort, InlineTooShort}
-use Rattle.ddm_length.specs.declared.Marshaled.TheVariants.{Takes}
 use Rattle.ddm_length.specs.Lengths.{refuse, marshaled, measured, fitting}
 use Rattle.ddm_length.proofs.TakenLengths.{LengthSays, says_inline, says_all, says_wide, marshaled_says}
 use Rattle.ddm_change.specs.inner.Carried.{carried}
 use Rattle.ddm_change.proofs.CarriedLaws.{carried_length, drop_two}
 use Rattle.ddm_change.proofs.carried.measure_in.Goals as goal
+use Rattle.ddm_length.specs.Lengths.{takes}
 
 small : {b : List ℕ} {t h : ℕ} → LengthSays b t h → t < h → (4 ≤ length b) × (t < 65536)
 small (says_inline four et eh hi) l = (four, omega arith)
 small (says_all four raw et eh) l = (four, absurd (omega arith))
 small (says_wide raw lo there et hi) l = absurd (omega arith)
 
-module _ (v : List ℕ) (at place total header : ℕ) (says : marshaled (drop at v) place ≡ Takes total header) where
+module _ (v : List ℕ) (at place total header : ℕ) (says : marshaled (drop at v) place ≡ Ok (takes total header)) where
   low : (cp : ℕ) → cp ≡ be16 v (at + 2) → total < header → refuse place (InlineTooShort total cp) ≡ measured (drop at v) place
   unfolding measured
   low cp e h =
@@ -38,7 +39,7 @@ module _ (v : List ℕ) (at place total header : ℕ) (says : marshaled (drop at
         ap (λ (m : ℕ). refuse place (BufferTooShort total m)) len
         ∙ sym (ap (fitting (drop at v) place) says ∙ pick_no _ _ (le-ltb total header l) ∙ pick_no _ _ (lt-leb total (length (drop at v)) (omega (arith, len))))
 
-    fits : total ≤ n - at → Takes total header ≡ measured (drop at v) place
+    fits : total ≤ n - at → Ok (takes total header) ≡ measured (drop at v) place
     unfolding measured
     fits h =
         sym (ap (fitting (drop at v) place) says ∙ pick_no _ _ (le-ltb total header l) ∙ pick_yes _ _ (le-leb total (length (drop at v)) (omega (arith, len))))

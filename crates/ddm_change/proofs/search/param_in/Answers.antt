@@ -1,4 +1,5 @@
 -- `ddm_change::search::param_in` meets its contract: it goes by what `measure_in` says.
+use Rattle.std.specs.Prelude.{Some}
 use Prim.Native.Nat.{ℕ}
 use native.Mathlib.Omega.{arith}
 use mathlib.Core.Path.{sym, ◌∙◌, ap}
@@ -7,8 +8,8 @@ use Rattle.ddm_length.proofs.MarkerPieces.{be16_drop}
 use Rattle.ddm_change.specs.inner.Carried.{carried}
 use Rattle.ddm_change.proofs.CarriedLaws.{carried_length, drop_two}
 use Rattle.ddm_change.proofs.SearchLaws.{param_refused, param_raw, param_takes, measured_four}
-use Rattle.ddm_change.specs.declared.Param.TheVariants.{Takes}
 use Rattle.ddm_change.proofs.search.param_in.Goals as goal
+use Rattle.ddm_change.specs.inner.Searching.{param}
 
 pub u16_in-requires : goal.u16_in-requires
 u16_in-requires c =
@@ -32,7 +33,7 @@ returns-in-Takes c =
     let s = c.args in
     let v = carried s.c s.run.now in
     let e = sym c.in-Takes.ensures in
-    ap (λ (n : ℕ). Takes n c.in-Takes.total) (c.u16_in-code_point.ensures ∙ sym (drop_two v s.at 2))
+    ap (λ (n : ℕ). Some (param n c.in-Takes.total)) (c.u16_in-code_point.ensures ∙ sym (drop_two v s.at 2))
     ∙ sym (param_takes _ _ _ e (λ z. c.if-u16_in.false (c.u16_in.ensures ∙ sym (be16_drop v s.at) ∙ z)))
 
 pub returns-in-Refused : goal.returns-in-Refused

@@ -1,4 +1,5 @@
 -- `ddm_object::record::parse_in` meets its contract: the laws of what is answered, by the record that was found.
+use Rattle.std.specs.Prelude.{Ok}
 use Prim.Native.Nat.{ℕ, ◌<◌}
 use native.Mathlib.Omega.{arith}
 use mathlib.Core.Path.{◌≡◌, sym, ◌∙◌, ap}
@@ -10,12 +11,11 @@ use Rattle.ddm_length.specs.Markers.{unmarked}
 use Rattle.wire.proofs.LentParts.{tail_drop}
 use Rattle.ddm_object.proofs.ObjectRecords.{in_long, record_of, refused_of, rec_in, need_is, gives_plain, gives_work, gives_short, gives_refused}
 use Rattle.ddm_object.specs.declared.DdmObject.{DdmObject}
-use Rattle.ddm_object.specs.declared.ObjectFound.TheVariants.{Object as Gives}
 use Rattle.ddm_object.specs.inner.RecordsGiven.{record_found}
 use Rattle.ddm_object.proofs.record.parse_in.Goals as goal
 
 -- an object whose data go through the work area is long
-four_there : (b : List ℕ) (place position : ℕ) (work : List ℕ) (rec : DdmObject) → record_found b place ≡ Gives rec → rec.in_work ≡ true → 32763 < length b
+four_there : (b : List ℕ) (place position : ℕ) (work : List ℕ) (rec : DdmObject) → record_found b place ≡ Ok rec → rec.in_work ≡ true → 32763 < length b
 four_there b place position work rec e i =
     in_long b (sym (rec_in b place position work rec (record_of b place rec e)) ∙ i)
 
