@@ -3,20 +3,20 @@
 #![tactic(auto)]
 
 ghost use Rattle.std.specs.Prelude.{◌≡◌, [], ◌∷◌, ◌+◌, ◌≤◌, length, get_or};
-ghost use Rattle.wire.specs.Bytes.{be16, two, splice, laid};
+ghost use Rattle.wire.specs.Bytes.{be16, marker, two, splice, laid};
 
 // The byte at a place; 0 beyond the run.
 pub fn byte_at(s: &[u8], at: usize) -> u8
     ensures { result ≡ get_or s.now at 0 }
 {
-    if at < s.len() { s[at] } else { 0 }
+    s.get(at).copied().unwrap_or(0)
 }
 
 // The number of two bytes.
 pub fn u16_of(high: u8, low: u8) -> u16
     ensures { result ≡ be16 (high ∷ low ∷ []) 0 }
 {
-    (high as u16) * 256 + (low as u16)
+    u16::from_be_bytes([high, low])
 }
 
 // The two bytes at a place as a number; a byte beyond the run is 0.
@@ -26,9 +26,14 @@ pub fn u16_at(s: &[u8], at: usize) -> u16
     if s.len() <= at {
         return 0;
     }
-    let high = s[at];
-    let low = byte_at(s, at + 1);
-    u16_of(high, low)
+    u16_of(s[at], byte_at(s, at + 1))
+}
+
+// Whether two bytes are a continuation marker.
+pub fn is_marker(n: u16) -> bool
+    ensures { result ≡ marker n }
+{
+    matches!(n, 0x7FFE | 0x7FFF)
 }
 
 // Lays a number's two bytes down at the room's start, where it has two.
@@ -38,8 +43,9 @@ pub fn put_u16(room: &mut [u8], n: u16)
     if room.len() < 2 {
         return;
     }
-    room[0] = (n / 256 % 256) as u8;
-    room[1] = (n % 256) as u8;
+    let [high, low] = n.to_be_bytes();
+    room[0] = high;
+    room[1] = low;
 }
 
 // Lays bytes down at the room's start, where it has room for them. A loop, which is compiled to moves of sixteen bytes, and not

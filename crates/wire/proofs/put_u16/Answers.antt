@@ -8,7 +8,4 @@ pub returns-then-room-lt2 : goal.returns-then-room-lt2
 returns-then-room-lt2 c = sym (laid_kept c.args.room.now 0 (two c.args.n) c.if-room-lt2.true)
 
 pub returns : goal.returns
-returns c =
-    let room = c.args.room.now in
-    let n = c.args.n in
-    sets_laid (two n) room c.if-room-lt2.false
+returns c = rw c.to_be_bytes.ensures (sets_laid (two c.args.n) c.args.room.now c.if-room-lt2.false)
