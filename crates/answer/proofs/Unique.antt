@@ -11,6 +11,7 @@ use Rattle.answer.proofs.Refusal.not_whole.Reads as not_whole
 use Rattle.answer.proofs.Refusal.first_value.Reads as first_value
 use Rattle.answer.proofs.Refusal.second_value.Reads as second_value
 use Rattle.answer.proofs.Refusal.third_value.Reads as third_value
+use Rattle.answer.proofs.Refusal.at.Reads as refusal_at
 use Rattle.answer.proofs.Refused.no_room.Reads as no_room
 use Rattle.answer.proofs.Refused.out_of_bounds.Reads as out_of_bounds
 use Rattle.answer.proofs.room_for.Reads as room_for
@@ -29,6 +30,10 @@ second_value_one κs x r r' p q = p ∙ sym q
 
 pub third_value_one : (κs : Lfts 0) (x : Refusal) (r r' : ℕ) → third_value.Post κs (x, tt) r (x, tt) → third_value.Post κs (x, tt) r' (x, tt) → r ≡ r'
 third_value_one κs x r r' p q = p ∙ sym q
+
+pub refusal_at_one : (κs : Lfts 0) (x : Refusal) (place : ℕ) (r r' : Refused)
+    → refusal_at.Post κs (x, (place, tt)) r (x, (place, tt)) → refusal_at.Post κs (x, (place, tt)) r' (x, (place, tt)) → r ≡ r'
+refusal_at_one κs x place r r' p q = p ∙ sym q
 
 pub no_room_one : (κs : Lfts 0) (bytes records place : ℕ) (r r' : Refused)
     → no_room.Post κs (bytes, (records, (place, tt))) r (bytes, (records, (place, tt)))

@@ -1,12 +1,17 @@
 -- What a result needs of the room that is lent for it: document 01, "Answer numbers", the paragraph below the table.
 use Rattle.std.specs.Prelude.{ℕ, ◌-◌, ◌^◌, ◌≡◌, Bool, List, ltb, leb, length, Result, Ok, Err}
 use Rattle.wire.specs.Bytes.{pick, and, laid}
+use Rattle.answer.specs.declared.Refusal.{Refusal}
 use Rattle.answer.specs.declared.Refusal.TheVariants.{NoRoom, OutOfBounds}
 use Rattle.answer.specs.declared.Refused.{Refused}
 
 -- "a need above 2^64 - 1 is given as that"
 abbrev pub capped : ℕ → ℕ
 capped n = pick (ltb n (2 ^ 64)) n (2 ^ 64 - 1)
+
+-- a refusal, with the place that document 01 gives it
+abbrev pub refused_at : Refusal → ℕ → Refused
+refused_at why place = record { why = why; place = place }
 
 -- 9, with what is needed
 abbrev pub no_room : ℕ → ℕ → ℕ → Refused

@@ -3,7 +3,7 @@
 
 ghost use Rattle.std.specs.Prelude.{◌≡◌, get_or};
 ghost use Rattle.answer.specs.Numbers.{number_of, not_whole, values_of};
-ghost use Rattle.answer.specs.Rooms.{no_room, out_of_bounds, room_for};
+ghost use Rattle.answer.specs.Rooms.{refused_at, no_room, out_of_bounds, room_for};
 
 #[derive(Clone, Copy)]
 pub enum Refusal {
@@ -45,20 +45,6 @@ pub struct Refused {
     pub place: usize,
 }
 
-// Whether a room has the bytes that a result needs.
-#[derive(Clone, Copy)]
-pub enum RoomFor {
-    Enough,
-    Refused(Refused),
-}
-
-// What laying bytes down at a room's first byte comes to: how many they are.
-#[derive(Clone, Copy)]
-pub enum Laid {
-    Bytes(usize),
-    Refused(Refused),
-}
-
 impl Refusal {
     // Document 01's number of it.
     pub fn number(self) -> u8
@@ -68,22 +54,13 @@ impl Refusal {
             Refusal::Incomplete => 1,
             Refusal::InvalidMagic(_) => 2,
             Refusal::InvalidDssType(_) => 3,
-            Refusal::BufferTooShort {
-                expected: _,
-                actual: _,
-            } => 4,
-            Refusal::InlineTooShort {
-                length: _,
-                code_point: _,
-            } => 5,
+            Refusal::BufferTooShort { .. } => 4,
+            Refusal::InlineTooShort { .. } => 5,
             Refusal::HeaderTooShort(_) => 6,
             Refusal::LengthTooShort(_) => 7,
             Refusal::LengthTooLarge(_) => 8,
-            Refusal::NoRoom {
-                bytes: _,
-                records: _,
-            } => 9,
-            Refusal::OutOfBounds { mark: _, length: _ } => 10,
+            Refusal::NoRoom { .. } => 9,
+            Refusal::OutOfBounds { .. } => 10,
             Refusal::NotFound => 11,
             Refusal::DeadContinuation => 16,
             Refusal::UnsoundData => 17,
@@ -95,11 +72,7 @@ impl Refusal {
     pub fn not_whole(self) -> bool
         ensures { result ≡ not_whole self }
     {
-        let number = self.number();
-        if number == 1 {
-            return true;
-        }
-        number == 16
+        matches!(self, Refusal::Incomplete | Refusal::DeadContinuation)
     }
 
     // The first value that it carries, 0 where it carries none.
@@ -107,26 +80,15 @@ impl Refusal {
         ensures { result ≡ get_or (values_of self) 0 0 }
     {
         match self {
-            Refusal::Incomplete => 0,
-            Refusal::InvalidMagic(b) => b as usize,
-            Refusal::InvalidDssType(b) => b as usize,
-            Refusal::BufferTooShort {
-                expected,
-                actual: _,
-            } => expected,
-            Refusal::InlineTooShort {
-                length,
-                code_point: _,
-            } => length as usize,
-            Refusal::HeaderTooShort(n) => n as usize,
-            Refusal::LengthTooShort(n) => n as usize,
-            Refusal::LengthTooLarge(n) => n as usize,
-            Refusal::NoRoom { bytes, records: _ } => bytes,
-            Refusal::OutOfBounds { mark, length: _ } => mark,
-            Refusal::NotFound => 0,
-            Refusal::DeadContinuation => 0,
-            Refusal::UnsoundData => 0,
-            Refusal::UnreadableSize => 0,
+            Refusal::InvalidMagic(byte) | Refusal::InvalidDssType(byte) => usize::from(byte),
+            Refusal::BufferTooShort { expected, .. } => expected,
+            Refusal::InlineTooShort { length, .. } => usize::from(length),
+            Refusal::HeaderTooShort(length)
+            | Refusal::LengthTooShort(length)
+            | Refusal::LengthTooLarge(length) => usize::from(length),
+            Refusal::NoRoom { bytes, .. } => bytes,
+            Refusal::OutOfBounds { mark, .. } => mark,
+            _ => 0,
         }
     }
 
@@ -135,26 +97,11 @@ impl Refusal {
         ensures { result ≡ get_or (values_of self) 1 0 }
     {
         match self {
-            Refusal::BufferTooShort {
-                expected: _,
-                actual,
-            } => actual,
-            Refusal::InlineTooShort {
-                length: _,
-                code_point: _,
-            } => 4,
-            Refusal::NoRoom { bytes: _, records } => records,
-            Refusal::OutOfBounds { mark: _, length } => length,
-            Refusal::Incomplete => 0,
-            Refusal::InvalidMagic(_) => 0,
-            Refusal::InvalidDssType(_) => 0,
-            Refusal::HeaderTooShort(_) => 0,
-            Refusal::LengthTooShort(_) => 0,
-            Refusal::LengthTooLarge(_) => 0,
-            Refusal::NotFound => 0,
-            Refusal::DeadContinuation => 0,
-            Refusal::UnsoundData => 0,
-            Refusal::UnreadableSize => 0,
+            Refusal::BufferTooShort { actual, .. } => actual,
+            Refusal::InlineTooShort { .. } => 4,
+            Refusal::NoRoom { records, .. } => records,
+            Refusal::OutOfBounds { length, .. } => length,
+            _ => 0,
         }
     }
 
@@ -163,30 +110,16 @@ impl Refusal {
         ensures { result ≡ get_or (values_of self) 2 0 }
     {
         match self {
-            Refusal::InlineTooShort {
-                length: _,
-                code_point,
-            } => code_point as usize,
-            Refusal::BufferTooShort {
-                expected: _,
-                actual: _,
-            } => 0,
-            Refusal::NoRoom {
-                bytes: _,
-                records: _,
-            } => 0,
-            Refusal::OutOfBounds { mark: _, length: _ } => 0,
-            Refusal::Incomplete => 0,
-            Refusal::InvalidMagic(_) => 0,
-            Refusal::InvalidDssType(_) => 0,
-            Refusal::HeaderTooShort(_) => 0,
-            Refusal::LengthTooShort(_) => 0,
-            Refusal::LengthTooLarge(_) => 0,
-            Refusal::NotFound => 0,
-            Refusal::DeadContinuation => 0,
-            Refusal::UnsoundData => 0,
-            Refusal::UnreadableSize => 0,
+            Refusal::InlineTooShort { code_point, .. } => usize::from(code_point),
+            _ => 0,
         }
+    }
+
+    // It, at a place.
+    pub fn at(self, place: usize) -> Refused
+        ensures { result ≡ refused_at self place }
+    {
+        Refused { why: self, place }
     }
 }
 
@@ -195,28 +128,26 @@ impl Refused {
     pub fn no_room(bytes: usize, records: usize, place: usize) -> Refused
         ensures { result ≡ no_room place bytes records }
     {
-        let why = Refusal::NoRoom { bytes, records };
-        Refused { why, place }
+        Refusal::NoRoom { bytes, records }.at(place)
     }
 
     // 10 at a mark or position, with the length of what it is beyond.
     pub fn out_of_bounds(mark: usize, length: usize) -> Refused
         ensures { result ≡ out_of_bounds mark length }
     {
-        let why = Refusal::OutOfBounds { mark, length };
-        Refused { why, place: mark }
+        Refusal::OutOfBounds { mark, length }.at(mark)
     }
 }
 
 // Whether `need` bytes can be laid down from a fill mark of a room of `size` bytes: 10, then 9.
-pub fn room_for(mark: usize, size: usize, need: usize) -> RoomFor
+pub fn room_for(mark: usize, size: usize, need: usize) -> Result<(), Refused>
     ensures { result ≡ room_for mark size need }
 {
     if size < mark {
-        return RoomFor::Refused(Refused::out_of_bounds(mark, size));
+        return Err(Refused::out_of_bounds(mark, size));
     }
     if size - mark < need {
-        return RoomFor::Refused(Refused::no_room(need, 0, mark));
+        return Err(Refused::no_room(need, 0, mark));
     }
-    RoomFor::Enough
+    Ok(())
 }

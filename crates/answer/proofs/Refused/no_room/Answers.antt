@@ -5,4 +5,4 @@ use borrow.Author.Tests.{lt-ltb}
 use Rattle.answer.proofs.Refused.no_room.Goals as goal
 
 pub returns : goal.returns
-returns c = simp (lt-ltb c.args.bytes (2 ^ 64) (omega arith), lt-ltb c.args.records (2 ^ 64) (omega arith))
+returns c = rw c.at.ensures (simp (lt-ltb c.args.bytes (2 ^ 64) (omega arith), lt-ltb c.args.records (2 ^ 64) (omega arith)))
