@@ -1,9 +1,9 @@
 // An input is pieces one behind the other: how many, then each of them. A piece starts with a number, four times its length and
 // its kind: 0, the bytes follow; 1, a number follows, whose last byte is all its bytes; 2, a number follows, from which
 // a row of bytes is counted out that comes back to its start after 65,536.
-ghost use Rattle.std.specs.Prelude.{◌<◌, ◌≤◌, length};
+ghost use Rattle.std.specs.Prelude.{◌≤◌, length};
 
-use super::number::{at_most, low8, number_at};
+use super::number::{at_most, number_at};
 
 // How many bytes were laid down, and the place in the list behind what they were made of.
 #[derive(Drop)]
@@ -17,14 +17,12 @@ pub fn fill_input(list: &[u8], at: usize, run: &mut [u8]) -> Filled
     ensures next_in_bounds { result.next ≤ length list.now }
 {
     let pieces = number_at(list, at);
-    let mut left = at_most(pieces.value, list.len());
     let mut next = pieces.next;
     let mut len = 0;
-    while left > 0 {
+    for _ in 0..at_most(pieces.value, list.len()) {
         let piece = fill_piece(list, next, &mut run[len..]);
         len += piece.len;
         next = piece.next;
-        left -= 1;
     }
     Filled { len, next }
 }
@@ -40,9 +38,10 @@ fn fill_piece(list: &[u8], at: usize, room: &mut [u8]) -> Filled
     }
     let made_of = number_at(list, head.next);
     if head.value % 4 == 1 {
-        fill_bytes(&mut room[0..len], low8(made_of.value));
+        let [last, ..] = made_of.value.to_le_bytes();
+        room[..len].fill(last);
     } else {
-        fill_counted(&mut room[0..len], made_of.value);
+        fill_counted(&mut room[..len], made_of.value);
     }
     Filled {
         len,
@@ -57,38 +56,19 @@ fn fill_literal(list: &[u8], at: usize, len: usize, room: &mut [u8]) -> Filled
     ensures next_in_bounds { result.next ≤ length list.now }
 {
     let rest = &list[at..];
-    let n = at_most(len as u64, rest.len());
-    room[0..n].copy_from_slice(&rest[0..n]);
+    let n = len.min(rest.len());
+    room[..n].copy_from_slice(&rest[..n]);
     Filled {
         len: n,
         next: at + n,
     }
 }
 
-// All bytes the same.
-pub fn fill_bytes(room: &mut [u8], b: u8) {
-    let mut i = 0;
-    while i < room.len() {
-        room[i] = b;
-        i += 1;
-    }
-}
-
-// All words the same.
-pub fn fill_words(row: &mut [u64], w: u64) {
-    let mut i = 0;
-    while i < row.len() {
-        row[i] = w;
-        i += 1;
-    }
-}
-
 fn fill_counted(room: &mut [u8], start: u64) {
-    let mut x = start % 65536;
-    let mut i = 0;
-    while i < room.len() {
-        room[i] = low8(x / 256);
-        x = (x * 25173 + 13849) % 65536;
-        i += 1;
+    let mut x = (start % 65536) as u16;
+    for slot in room.iter_mut() {
+        let [high, _] = x.to_be_bytes();
+        *slot = high;
+        x = x.wrapping_mul(25173).wrapping_add(13849);
     }
 }

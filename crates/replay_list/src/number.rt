@@ -1,6 +1,6 @@
 // A number takes one byte where it is below 248. Else the first byte is 247 and how many bytes follow, and these are the number,
 // most significant first.
-ghost use Rattle.std.specs.Prelude.{◌<◌, ◌≤◌, length};
+ghost use Rattle.std.specs.Prelude.{◌≤◌, length};
 
 // A number of the list, and the place behind it.
 #[derive(Drop)]
@@ -12,29 +12,27 @@ pub struct Number {
 pub fn number_at(list: &[u8], at: usize) -> Number
     ensures { result.next ≤ length list.now }
 {
+    let beyond = Number {
+        value: 0,
+        next: list.len(),
+    };
     if list.len() <= at {
-        return Number {
-            value: 0,
-            next: list.len(),
-        };
+        return beyond;
     }
     let first = list[at];
-    if first < 248 {
+    let behind = count(first);
+    if behind == 0 {
         return Number {
-            value: wide(first),
+            value: u64::from(first),
             next: at + 1,
         };
     }
-    let rest = &list[at..];
-    let behind = count(first);
-    if rest.len() <= behind {
-        return Number {
-            value: 0,
-            next: list.len(),
-        };
+    let rest = &list[at + 1..];
+    if rest.len() < behind {
+        return beyond;
     }
     Number {
-        value: of_bytes(rest, behind),
+        value: of_bytes(&rest[..behind]),
         next: at + 1 + behind,
     }
 }
@@ -43,30 +41,14 @@ pub fn number_at(list: &[u8], at: usize) -> Number
 fn count(first: u8) -> usize
     ensures { result ≤ 8 }
 {
-    if first < 248 {
-        return 0;
-    }
-    (first - 247) as usize
+    usize::from(first.saturating_sub(247))
 }
 
-// The number in so many bytes behind the first.
-fn of_bytes(s: &[u8], n: usize) -> u64 {
-    let mut value: u64 = 0;
-    let mut i = 0;
-    while i < n {
-        i += 1;
-        value = (value << 8) | wide(wire::byte_at(s, i));
-    }
-    value
-}
-
-pub fn wide(b: u8) -> u64 {
-    b as u64
-}
-
-// A number's last byte.
-pub fn low8(x: u64) -> u8 {
-    (x % 256) as u8
+// The number in these bytes.
+fn of_bytes(bytes: &[u8]) -> u64 {
+    bytes
+        .iter()
+        .fold(0, |value, &b| (value << 8) | u64::from(b))
 }
 
 // A number, or what there is where that is less.
@@ -74,5 +56,5 @@ pub fn at_most(x: u64, most: usize) -> usize
     ensures upper_bound { result ≤ most }
     ensures upper_bound_2 { result ≤ x }
 {
-    if x < most as u64 { x as usize } else { most }
+    x.min(most as u64) as usize
 }
