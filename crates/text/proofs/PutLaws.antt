@@ -22,6 +22,11 @@ capped_low n h = pick_yes _ _ (lt-ltb n (2 ^ 64) h)
 pub capped_high : (n : ℕ) → 2 ^ 64 ≤ n → capped n ≡ 18446744073709551615
 capped_high n h = pick_no _ _ (le-ltb n (2 ^ 64) h)
 
+pub capped_small : (n : ℕ) → capped n < 2 ^ 64
+capped_small n =
+    by (ltb n (2 ^ 64)) (λ t. let e = capped_low n (ltb-true n (2 ^ 64) t) in let h : n < 2 ^ 64 = ltb-true n (2 ^ 64) t in omega arith)
+    (λ t. let e = capped_high n (ltb-false n (2 ^ 64) t) in omega arith)
+
 capped_add : (a b : ℕ) → capped (capped a + b) ≡ capped (a + b)
 capped_add a b =
     by (ltb a (2 ^ 64)) (λ t. ap (λ (n : ℕ). capped (n + b)) (capped_low a (ltb-true a (2 ^ 64) t)))
@@ -132,13 +137,7 @@ puts_two x y room at m mid r after h p q = leads_last y (leads_on x y (leads_sta
 pub puts_length : {text room : List ℕ} {at r : ℕ} {after : List ℕ} → Puts text room at r after → length after ≡ length room
 puts_length {text} {room} {at} p = ap length p.room_is ∙ length-sets room at text
 
--- ---- a byte, and a number in decimal
-
-pub byte_beyond : (room : List ℕ) (at b r : ℕ) → length room ≤ at → r ≡ capped (at + 1) → Puts (b ∷ []) room at r room
-byte_beyond room at b r h e = record { mark = e; room_is = sym (sets_beyond (b ∷ []) room at h) }
-
-pub byte_put : (room : List ℕ) (at b : ℕ) → at < length room → length room < 2 ^ 64 → Puts (b ∷ []) room at (at + 1) (set room at b)
-byte_put room at b h k = record { mark = sym (capped_low (at + 1) (omega arith)); room_is = refl }
+-- ---- a number in decimal
 
 pub one_digit : {d : ℕ} {room : List ℕ} {at r : ℕ} {after : List ℕ} (n : ℕ) → n < 10 → d ≡ 48 + n % 10 → Puts (d ∷ []) room at r after → Puts (decimal n) room at r after
 one_digit {d} n h e p = let z : decimal n ≡ d ∷ [] = decimal_one n h ∙ ap (λ (x : ℕ). x ∷ []) (sym e) in rw z p
@@ -162,3 +161,7 @@ module _ {whole start : List ℕ} {from : ℕ} {room : List ℕ} {at : ℕ} (wor
   words_done h k w l =
       let z : i ≡ length words = omega arith in
       leads_done (drop i words) w (ap (λ (n : ℕ). drop n words) z ∙ drop-length words) l
+
+-- the room by its other name
+pub puts_in : {words room : List ℕ} {at r : ℕ} {after same : List ℕ} → after ≡ same → Puts words room at r after → Puts words room at r same
+puts_in e p = rw (← e) p

@@ -1,5 +1,5 @@
--- Any two outcomes that a contract of this crate allows are equal: the mark, and every byte of the room. Each statement names the contract,
--- and doesn't write it again. And one outcome is allowed, whatever is given.
+-- Any two outcomes that a contract of this crate allows are equal: the mark, every byte of the room, and that it is the room that was
+-- lent. Each statement names the contract, and doesn't write it again. And one outcome is allowed, whatever is given.
 use Prim.Native.Nat.{ℕ, ◌+◌}
 use mathlib.Core.Path.{◌≡◌, refl, sym, ◌∙◌}
 use mathlib.Core.List.{List, [], ◌∷◌, ◌++◌}
@@ -9,44 +9,65 @@ use contract.Lifetimes.{Lfts}
 use denote.Ref.{Bor, MutBor, at_last}
 use Rattle.answer.specs.Rooms.{capped}
 use Rattle.text.specs.Texts.{decimal}
+use Rattle.text.specs.declared.Text.{Text}
 use Rattle.text.specs.inner.Puts.{Puts}
-use Rattle.text.proofs.put_byte.Reads as put_byte
-use Rattle.text.proofs.put_text.Reads as put_text
-use Rattle.text.proofs.put_decimal.Reads as put_decimal
-use Rattle.text.proofs.put_number.Reads as put_number
+use Rattle.text.specs.inner.PutsText.{PutsText}
+use Rattle.text.proofs.PutLaws.{capped_small}
+use Rattle.text.proofs.Text.put_byte.Reads as put_byte
+use Rattle.text.proofs.Text.put_text.Reads as put_text
+use Rattle.text.proofs.Text.put_decimal.Reads as put_decimal
+use Rattle.text.proofs.Text.put_number.Reads as put_number
 
 -- what every contract comes to
 pub puts_one : {text room : List ℕ} {at : ℕ} (r r' : ℕ) (l l' : List ℕ) → Puts text room at r l → Puts text room at r' l' → (r ≡ r') × (l ≡ l')
 puts_one r r' l l' p q = (p.mark ∙ sym q.mark, p.room_is ∙ sym q.room_is)
 
-module _ (room : MutBor (List ℕ)) (at : ℕ) where
-  module _ (κs : Lfts 1) where
-    pub put_byte_one : (b r r' : ℕ) (l l' : List ℕ) → put_byte.Post κs (room, (at, (b, tt))) r (at_last room l, (at, (b, tt)))
-        → put_byte.Post κs (room, (at, (b, tt))) r' (at_last room l', (at, (b, tt))) → (r ≡ r') × (l ≡ l')
-    put_byte_one b r r' l l' p q = puts_one r r' l l' p q
+-- two texts on their way that show the same
+abbrev Same : Text → Text → Type 0
+Same t t' = (t.at ≡ t'.at) × (t.room.now ≡ t'.room.now) × (t.room.ghost_name ≡ t'.room.ghost_name)
 
-    pub put_byte_some : (b : ℕ) → put_byte.Post κs (room, (at, (b, tt))) (capped (at + 1)) (at_last room (sets room.now at (b ∷ [])), (at, (b, tt)))
-    put_byte_some b = record { mark = refl; room_is = refl }
+pub puts_text_one : {words : List ℕ} {before : Text} (t t' : Text) → PutsText words before t → PutsText words before t' → Same t t'
+puts_text_one t t' p q =
+    let e = puts_one _ _ _ _ p.puts q.puts in
+    (e.0, e.1, p.same_room ∙ sym q.same_room)
 
-    pub put_decimal_one : (n r r' : ℕ) (l l' : List ℕ) → put_decimal.Post κs (room, (at, (n, tt))) r (at_last room l, (at, (n, tt)))
-        → put_decimal.Post κs (room, (at, (n, tt))) r' (at_last room l', (at, (n, tt))) → (r ≡ r') × (l ≡ l')
-    put_decimal_one n r r' l l' p q = puts_one r r' l l' p q
+-- the text with so many bytes put
+abbrev pub text_with : Text → List ℕ → Text
+text_with t words =
+    record { room = at_last t.room (sets t.room.now t.at words); at = capped (t.at + length words); fits = capped_small (t.at + length words) }
 
-    pub put_decimal_some : (n : ℕ) → put_decimal.Post κs (room, (at, (n, tt))) (capped (at + length (decimal n))) (at_last room (sets room.now at (decimal n)), (at, (n, tt)))
-    put_decimal_some n = record { mark = refl; room_is = refl }
+pub puts_text_some : (words : List ℕ) (t : Text) → PutsText words t (text_with t words)
+puts_text_some words t = record { puts = record { mark = refl; room_is = refl }; same_room = refl }
 
-  module _ (κs : Lfts 2) (words : Bor (List ℕ)) where
-    pub put_text_one : (r r' : ℕ) (l l' : List ℕ) → put_text.Post κs (room, (at, (words, tt))) r (at_last room l, (at, (words, tt)))
-        → put_text.Post κs (room, (at, (words, tt))) r' (at_last room l', (at, (words, tt))) → (r ≡ r') × (l ≡ l')
-    put_text_one r r' l l' p q = puts_one r r' l l' p q
+module _ (κs : Lfts 2) (self : MutBor Text) where
+  module _ (b : ℕ) where
+    pub put_byte_one : (t t' : Text) → put_byte.Post κs (self, (b, tt)) tt (at_last self t, (b, tt))
+        → put_byte.Post κs (self, (b, tt)) tt (at_last self t', (b, tt)) → Same t t'
+    put_byte_one t t' p q = puts_text_one t t' p q
 
-    pub put_text_some : put_text.Post κs (room, (at, (words, tt))) (capped (at + length words.now)) (at_last room (sets room.now at words.now), (at, (words, tt)))
-    put_text_some = record { mark = refl; room_is = refl }
+    pub put_byte_some : put_byte.Post κs (self, (b, tt)) tt (at_last self (text_with self.now (b ∷ [])), (b, tt))
+    put_byte_some = puts_text_some (b ∷ []) self.now
 
-    pub put_number_one : (n r r' : ℕ) (l l' : List ℕ) → put_number.Post κs (room, (at, (words, (n, tt)))) r (at_last room l, (at, (words, (n, tt))))
-        → put_number.Post κs (room, (at, (words, (n, tt)))) r' (at_last room l', (at, (words, (n, tt)))) → (r ≡ r') × (l ≡ l')
-    put_number_one n r r' l l' p q = puts_one r r' l l' p q
+  module _ (n : ℕ) where
+    pub put_decimal_one : (t t' : Text) → put_decimal.Post κs (self, (n, tt)) tt (at_last self t, (n, tt))
+        → put_decimal.Post κs (self, (n, tt)) tt (at_last self t', (n, tt)) → Same t t'
+    put_decimal_one t t' p q = puts_text_one t t' p q
 
-    pub put_number_some : (n : ℕ) → put_number.Post κs (room, (at, (words, (n, tt)))) (capped (at + length (words.now ++ decimal n)))
-        (at_last room (sets room.now at (words.now ++ decimal n)), (at, (words, (n, tt))))
-    put_number_some n = record { mark = refl; room_is = refl }
+    pub put_decimal_some : put_decimal.Post κs (self, (n, tt)) tt (at_last self (text_with self.now (decimal n)), (n, tt))
+    put_decimal_some = puts_text_some (decimal n) self.now
+
+module _ (κs : Lfts 3) (self : MutBor Text) (words : Bor (List ℕ)) where
+  pub put_text_one : (t t' : Text) → put_text.Post κs (self, (words, tt)) tt (at_last self t, (words, tt))
+      → put_text.Post κs (self, (words, tt)) tt (at_last self t', (words, tt)) → Same t t'
+  put_text_one t t' p q = puts_text_one t t' p q
+
+  pub put_text_some : put_text.Post κs (self, (words, tt)) tt (at_last self (text_with self.now words.now), (words, tt))
+  put_text_some = puts_text_some words.now self.now
+
+  module _ (n : ℕ) where
+    pub put_number_one : (t t' : Text) → put_number.Post κs (self, (words, (n, tt))) tt (at_last self t, (words, (n, tt)))
+        → put_number.Post κs (self, (words, (n, tt))) tt (at_last self t', (words, (n, tt))) → Same t t'
+    put_number_one t t' p q = puts_text_one t t' p q
+
+    pub put_number_some : put_number.Post κs (self, (words, (n, tt))) tt (at_last self (text_with self.now (words.now ++ decimal n)), (words, (n, tt)))
+    put_number_some = puts_text_some (words.now ++ decimal n) self.now

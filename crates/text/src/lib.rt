@@ -2,67 +2,62 @@
 // goes on, so that the same functions say how long a text is.
 #![tactic(auto)]
 
-ghost use Rattle.std.specs.Prelude.{[], ◌∷◌, ◌++◌, ◌≡◌, ◌+◌, ◌%◌};
-ghost use Rattle.answer.specs.Rooms.{capped};
+ghost use Rattle.std.specs.Prelude.{[], ◌∷◌, ◌++◌, ◌≡◌, ◌+◌, ◌%◌, ◌<◌, ◌^◌};
 ghost use Rattle.text.specs.Texts.{decimal};
-ghost use Rattle.text.specs.inner.Puts.{Puts};
 
-// The mark behind a byte.
-pub(crate) fn next(at: usize) -> usize
-    ensures { result ≡ capped (at + 1) }
-{
-    if at == usize::MAX {
-        return at;
-    }
-    at + 1
-}
-
-// A byte at a mark.
-pub fn put_byte(room: &mut [u8], at: usize, byte: u8) -> usize
-    ensures { Puts (byte ∷ []) room.old at result room.new }
-{
-    if room.len() <= at {
-        return next(at);
-    }
-    room[at] = byte;
-    at + 1
-}
-
-// Bytes from a mark on.
-pub fn put_text(room: &mut [u8], from: usize, words: &[u8]) -> usize
-    ensures { Puts words.now room.old «from» result room.new }
-{
-    let mut at = from;
-    let mut i = 0;
-    while i < words.len() {
-        at = put_byte(room, at, words[i]);
-        i += 1;
-    }
-    at
+// A text on its way into a lent room: the room, and the mark behind the last byte.
+#[derive(Drop)]
+pub struct Text<'a> {
+    pub room: &'a mut [u8],
+    pub at: usize,
+    // a proof sees what type the mark has only where a body reads it
+    ghost fits: { at < 2 ^ 64 },
 }
 
 // The last digit of a number.
 pub(crate) fn last_digit(n: usize) -> u8
     ensures { result ≡ 48 + n % 10 }
 {
-    48 + (n % 10) as u8
+    b'0' + (n % 10) as u8
 }
 
-// A number in decimal.
-pub fn put_decimal(room: &mut [u8], from: usize, n: usize) -> usize
-    ensures { Puts (decimal n) room.old «from» result room.new }
-{
-    if n < 10 {
-        return put_byte(room, from, last_digit(n));
+impl<'a> Text<'a> {
+    ghost use Rattle.text.specs.inner.PutsText.{PutsText};
+
+    // A byte at the mark.
+    pub fn put_byte(&mut self, byte: u8)
+        ensures { PutsText (byte ∷ []) self.old self.new }
+    {
+        if self.at < self.room.len() {
+            self.room[self.at] = byte;
+        }
+        self.at = self.at.saturating_add(1);
     }
-    let at = put_decimal(room, from, n / 10);
-    put_byte(room, at, last_digit(n))
-}
 
-// A word, and a number in decimal behind it.
-pub fn put_number(room: &mut [u8], from: usize, word: &[u8], n: usize) -> usize
-    ensures { Puts (word.now ++ decimal n) room.old «from» result room.new }
-{
-    let at = put_text(room, from, word);
-    put_decimal(room, at, n)
+    // Bytes from the mark on.
+    pub fn put_text(&mut self, words: &[u8])
+        ensures { PutsText words.now self.old self.new }
+    {
+        for &byte in words {
+            self.put_byte(byte);
+        }
+    }
+
+    // A number in decimal.
+    pub fn put_decimal(&mut self, n: usize)
+        ensures { PutsText (decimal n) self.old self.new }
+    {
+        if 10 <= n {
+            self.put_decimal(n / 10);
+        }
+        self.put_byte(last_digit(n));
+    }
+
+    // A word, and a number in decimal behind it.
+    pub fn put_number(&mut self, word: &[u8], n: usize)
+        ensures { PutsText (word.now ++ decimal n) self.old self.new }
+    {
+        self.put_text(word);
+        self.put_decimal(n);
+    }
 }
