@@ -5,7 +5,7 @@ ghost use Rattle.std.specs.Prelude.{◌≡◌};
 ghost use Rattle.answer.specs.Rooms.{Lays};
 ghost use Rattle.dss_head.specs.Heads.{length_of, is_full, continuation_length, chunk_of, type_at, type_byte, flags_of, flags_byte, no_flags, head_at, head_bytes};
 
-use answer::{Laid, Refusal, Refused, RoomFor};
+use answer::{Refusal, Refused};
 
 pub const DSS_MAGIC: u8 = 0xD0;
 
@@ -25,7 +25,7 @@ pub const DSS_CONTINUATION_PAYLOAD_LEN: usize = DSS_FULL_SEGMENT_LEN - DSS_CONTI
 // The numbers of the types go from 1 to this one.
 pub const DSS_LAST_TYPE: u8 = 5;
 
-#[derive(Clone, Copy)]
+#[derive(Clone, Copy, PartialEq, Eq)]
 pub enum DssType {
     Request,
     Reply,
@@ -35,14 +35,14 @@ pub enum DssType {
     NoReply,
 }
 
-#[derive(Clone, Copy)]
+#[derive(Clone, Copy, PartialEq, Eq)]
 pub struct DssFlags {
     pub chained: bool,
     pub continue_on_error: bool,
     pub same_correlation: bool,
 }
 
-#[derive(Clone, Copy)]
+#[derive(Clone, Copy, PartialEq, Eq)]
 pub struct DssHeader {
     pub length: u16,
     pub dss_type: DssType,
@@ -50,22 +50,8 @@ pub struct DssHeader {
     pub correlation_id: u16,
 }
 
-// What reading a type finds.
-#[derive(Clone, Copy)]
-pub enum TypeFound {
-    Is(DssType),
-    Refused(Refused),
-}
-
-// What parsing a head finds.
-#[derive(Clone, Copy)]
-pub enum HeadFound {
-    Head(DssHeader),
-    Refused(Refused),
-}
-
 // What a continuation length says: document 01, "Reading".
-#[derive(Clone, Copy)]
+#[derive(Clone, Copy, PartialEq, Eq)]
 pub enum Chunk {
     // 0 and 1: never whole.
     Dead,
@@ -90,10 +76,7 @@ pub fn decode_dss_length(raw_length: u16) -> u16
 pub fn is_full_continuation_len(raw_length: u16) -> bool
     ensures { result ≡ is_full raw_length }
 {
-    if raw_length == DSS_CONTINUED {
-        return true;
-    }
-    raw_length == 0x7FFF
+    raw_length == DSS_CONTINUED || raw_length == 0x7FFF
 }
 
 // The bytes that a continuation of this raw length takes.
@@ -101,9 +84,10 @@ pub fn decode_continuation_len(raw_length: u16) -> usize
     ensures { result ≡ continuation_length raw_length }
 {
     if is_full_continuation_len(raw_length) {
-        return DSS_MAX_SEGMENT_LEN as usize;
+        DSS_FULL_SEGMENT_LEN
+    } else {
+        usize::from(raw_length)
     }
-    raw_length as usize
 }
 
 // The decision by raw continuation length.
@@ -120,21 +104,17 @@ pub fn decide_continuation(raw_length: u16) -> Chunk
 }
 
 impl DssType {
-    // The type in a format byte's low four bits.
-    pub fn from_byte(b: u8) -> TypeFound
+    // The type in a format byte's low four bits: refusal 3.
+    pub fn from_byte(b: u8) -> Result<DssType, Refused>
         ensures { result ≡ type_at b 0 }
     {
-        let low = b % 16;
-        match low {
-            1 => TypeFound::Is(DssType::Request),
-            2 => TypeFound::Is(DssType::Reply),
-            3 => TypeFound::Is(DssType::Object),
-            4 => TypeFound::Is(DssType::Communication),
-            5 => TypeFound::Is(DssType::NoReply),
-            _ => {
-                let why = Refusal::InvalidDssType(low);
-                TypeFound::Refused(Refused { why, place: 0 })
-            }
+        match b % 16 {
+            1 => Ok(DssType::Request),
+            2 => Ok(DssType::Reply),
+            3 => Ok(DssType::Object),
+            4 => Ok(DssType::Communication),
+            5 => Ok(DssType::NoReply),
+            low => Err(Refusal::InvalidDssType(low).at(0)),
         }
     }
 
@@ -185,7 +165,7 @@ impl DssFlags {
 
 impl DssHeader {
     // The head that the first six bytes are: refusals 4, 2, 3.
-    pub fn parse(data: &[u8]) -> HeadFound
+    pub fn parse(data: &[u8]) -> Result<DssHeader, Refused>
         ensures { result ≡ head_at «data».now 0 }
     {
         if data.len() < DSS_HEADER_LEN {
@@ -193,48 +173,31 @@ impl DssHeader {
                 expected: DSS_HEADER_LEN,
                 actual: data.len(),
             };
-            return HeadFound::Refused(Refused { why, place: 0 });
+            return Err(why.at(0));
         }
         let magic = data[2];
         if magic != DSS_MAGIC {
-            let why = Refusal::InvalidMagic(magic);
-            return HeadFound::Refused(Refused { why, place: 0 });
+            return Err(Refusal::InvalidMagic(magic).at(0));
         }
         let format = data[3];
-        match DssType::from_byte(format) {
-            TypeFound::Is(dss_type) => {
-                let length = decode_dss_length(wire::u16_at(data, 0));
-                let flags = DssFlags::from_byte(format);
-                let correlation_id = wire::u16_at(data, 4);
-                HeadFound::Head(DssHeader {
-                    length,
-                    dss_type,
-                    flags,
-                    correlation_id,
-                })
-            }
-            TypeFound::Refused(refused) => HeadFound::Refused(refused),
-        }
+        let dss_type = DssType::from_byte(format)?;
+        Ok(DssHeader {
+            length: decode_dss_length(wire::u16_at(data, 0)),
+            dss_type,
+            flags: DssFlags::from_byte(format),
+            correlation_id: wire::u16_at(data, 4),
+        })
     }
 
     // The head's six bytes at the room's start, its length as given: refusal 9.
-    pub fn serialize(self, room: &mut [u8]) -> Laid
+    pub fn serialize(self, room: &mut [u8]) -> Result<usize, Refused>
         ensures { Lays (head_bytes self) room.old result room.new }
     {
-        match answer::room_for(0, room.len(), DSS_HEADER_LEN) {
-            RoomFor::Refused(refused) => Laid::Refused(refused),
-            RoomFor::Enough => {
-                let dss_type = self.dss_type;
-                let flags = self.flags;
-                let format = dss_type.to_byte() + flags.to_byte();
-                room[0] = (self.length / 256) as u8;
-                room[1] = (self.length % 256) as u8;
-                room[2] = DSS_MAGIC;
-                room[3] = format;
-                room[4] = (self.correlation_id / 256) as u8;
-                room[5] = (self.correlation_id % 256) as u8;
-                Laid::Bytes(DSS_HEADER_LEN)
-            }
-        }
+        answer::room_for(0, room.len(), DSS_HEADER_LEN)?;
+        wire::put_u16(room, self.length);
+        room[2] = DSS_MAGIC;
+        room[3] = self.dss_type.to_byte() + self.flags.to_byte();
+        wire::put_u16(&mut room[4..], self.correlation_id);
+        Ok(DSS_HEADER_LEN)
     }
 }

@@ -30,11 +30,10 @@ leaves_row_one {r = r} {r' = r'} {l = l} {l' = l'} p q =
     (w.0, w.1, p.room_is ∙ sym q.room_is, p.row_is ∙ sym q.row_is)
 
 module _ (κs : Lfts 1) (words : MutBor (List ℕ)) (l l' : List ℕ) where
-  pub put_words_one : (a b c d e f g h : ℕ)
-      → put_words.Post κs (words, (a, (b, (c, (d, (e, (f, (g, (h, tt))))))))) tt (at_last words l, (a, (b, (c, (d, (e, (f, (g, (h, tt)))))))))
-      → put_words.Post κs (words, (a, (b, (c, (d, (e, (f, (g, (h, tt))))))))) tt (at_last words l', (a, (b, (c, (d, (e, (f, (g, (h, tt)))))))))
+  pub put_words_one : (answer : List ℕ) → put_words.Post κs (words, (answer, tt)) tt (at_last words l, (answer, tt))
+      → put_words.Post κs (words, (answer, tt)) tt (at_last words l', (answer, tt))
       → l ≡ l'
-  put_words_one a b c d e f g h p q = p ∙ sym q
+  put_words_one answer p q = p ∙ sym q
 
   module _ (r r' : ℕ) where
     pub put_done_one : (a b c d : ℕ)

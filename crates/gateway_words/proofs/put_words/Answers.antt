@@ -1,35 +1,25 @@
--- `gateway_words::put_words` meets its contract: eight stores lay eight words down.
+-- `gateway_words::put_words` meets its contract: the eight words go over the first eight that stand there.
 use native.Mathlib.Omega.{arith}
-use mathlib.Core.Path.{sym}
-use mathlib.Core.List.{[], ◌∷◌}
-use lib.ListN.{length-set}
-use Rattle.wire.proofs.Splicing.{laid_kept, sets_laid}
+use mathlib.Core.Path.{◌≡◌, refl, sym, ap, ◌∙◌}
+use mathlib.Core.List.{◌++◌}
+use Prim.Native.Nat.{ℕ, ◌+◌, ◌≤◌, ◌<◌}
+use lib.ListN.{length, drop}
+use Rattle.wire.proofs.Splicing.{laid_kept, laid_fits}
+use Rattle.wire.specs.Bytes.{splice}
 use Rattle.gateway_words.proofs.put_words.Goals as goal
 
-pub returns-then-words-lt-ANSWER_WORDS : goal.returns-then-words-lt-ANSWER_WORDS
-returns-then-words-lt-ANSWER_WORDS c =
+pub returns-in-Some : goal.returns-in-Some
+unfolding splice
+returns-in-Some c =
     let a = c.args in
-    sym (laid_kept a.words.now 0 (a.a ∷ a.b ∷ a.c ∷ a.d ∷ a.e ∷ a.f ∷ a.g ∷ a.h ∷ []) c.if-words-lt-ANSWER_WORDS.true)
+    let l : length a.answer ≡ 8 = omega (arith, c) in
+    let k : 8 ≤ length a.words.now = c.in-Some.ensures.variant.0 refl in
+    let z : 8 ≡ 0 + length a.answer = omega arith in
+    ap (λ (n : ℕ). a.answer ++ drop n a.words.now) z ∙ sym (laid_fits a.words.now 0 a.answer (omega arith))
 
-pub bounds-words-1 : goal.bounds-words-1
-bounds-words-1 c = simp length-set (omega arith)
-
-pub bounds-words-2 : goal.bounds-words-2
-bounds-words-2 c = simp length-set (omega arith)
-
-pub bounds-words-3 : goal.bounds-words-3
-bounds-words-3 c = simp length-set (omega arith)
-
-pub bounds-words-4 : goal.bounds-words-4
-bounds-words-4 c = simp length-set (omega arith)
-
-pub bounds-words-5 : goal.bounds-words-5
-bounds-words-5 c = simp length-set (omega arith)
-
-pub bounds-words-6 : goal.bounds-words-6
-bounds-words-6 c = simp length-set (omega arith)
-
-pub returns : goal.returns
-returns c =
+pub returns-in_default : goal.returns-in_default
+returns-in_default c =
     let a = c.args in
-    sets_laid (a.a ∷ a.b ∷ a.c ∷ a.d ∷ a.e ∷ a.f ∷ a.g ∷ a.h ∷ []) a.words.now c.if-words-lt-ANSWER_WORDS.false
+    let l : length a.answer ≡ 8 = omega (arith, c) in
+    let k : length a.words.now < 8 = c.in_default.ensures.cases in
+    sym (laid_kept a.words.now 0 a.answer (omega arith))
