@@ -1,5 +1,5 @@
 -- A record can be read back from its words, and a row says its records: cut into parts of a record's length, it is their words.
-use Rattle.std.specs.Prelude.{Ok}
+use Rattle.std.specs.Prelude.{Result, Ok}
 use Prim.Native.Nat.{ℕ, ◌+◌, ◌*◌, ◌≤◌, ◌<◌}
 use native.Mathlib.Omega.{arith}
 use native.Mathlib.Nat.{zero-mul, suc-mul, add_comm}
@@ -30,7 +30,7 @@ use Rattle.gateway_row.specs.RowWords.{format_byte, record_words, refused_words,
 pub format_says : (h : DssHeader) → (type_at (format_byte h) 0 ≡ Ok h.dss_type) × (flags_of (format_byte h) ≡ h.flags)
 format_says h = format_back h.dss_type h.flags 0
 
-one_type : {t u : DssType} → Ok t ≡ Ok u → t ≡ u
+one_type : {t u : DssType} → ◌≡◌ {A = Result DssType Refused} (Ok t) (Ok u) → t ≡ u
 one_type e = cc
 
 -- the words of two records are the same only where the records are

@@ -23,21 +23,19 @@ pub fn put_frame(words: &mut [u64], place: usize, last: usize, frame: DssFrame)
     ensures { words.new ≡ laid words.old 0 (frame_at place last frame) }
 {
     let head = frame.header;
-    let dss_type = head.dss_type;
-    let flags = head.flags;
-    let type_byte = dss_type.to_byte();
-    let flags_byte = flags.to_byte();
-    let format = type_byte as u64 + flags_byte as u64;
+    let format = head.dss_type.to_byte() + head.flags.to_byte();
     put_words(
         words,
-        0,
-        place as u64,
-        head.length as u64,
-        format,
-        head.correlation_id as u64,
-        frame.payload_len as u64,
-        frame.segments as u64,
-        last as u64,
+        [
+            0,
+            place as u64,
+            u64::from(head.length),
+            u64::from(format),
+            u64::from(head.correlation_id),
+            frame.payload_len as u64,
+            frame.segments as u64,
+            last as u64,
+        ],
     );
 }
 
