@@ -5,7 +5,7 @@ ghost use Rattle.dss_head.specs.Heads.{length_of, is_full, continuation_length, 
 ghost use Rattle.gateway_words.specs.AnswerWords.{Answered};
 ghost use Rattle.gateway_head.specs.HeadWords.{chunk_number, type_words, head_words, written_words, written_room};
 
-use dss_head::{Chunk, DssFlags, DssHeader, DssType, HeadFound, TypeFound};
+use dss_head::{Chunk, DssFlags, DssHeader, DssType};
 use gateway_words::{put_done, put_laid, put_refusal};
 
 pub fn lattrugone_decode_dss_length(raw: u16) -> u16
@@ -18,11 +18,7 @@ pub fn lattrugone_decode_dss_length(raw: u16) -> u16
 pub fn lattrugone_is_full_continuation_len(raw: u16) -> u8
     ensures { result ≡ pick (is_full raw) 1 0 }
 {
-    if dss_head::is_full_continuation_len(raw) {
-        1
-    } else {
-        0
-    }
+    u8::from(dss_head::is_full_continuation_len(raw))
 }
 
 pub fn lattrugone_decode_continuation_len(raw: u16) -> usize
@@ -47,8 +43,8 @@ pub fn lattrugone_type_from_byte(b: u8, words: &mut [u64]) -> u8
     ensures { Answered (type_words (type_at b 0)) words.old result words.new }
 {
     match DssType::from_byte(b) {
-        TypeFound::Is(dss_type) => put_done(words, dss_type.to_byte() as u64, 0, 0, 0),
-        TypeFound::Refused(refused) => put_refusal(words, refused),
+        Ok(dss_type) => put_done(words, u64::from(dss_type.to_byte()), 0, 0, 0),
+        Err(refused) => put_refusal(words, refused),
     }
 }
 
@@ -56,8 +52,7 @@ pub fn lattrugone_type_from_byte(b: u8, words: &mut [u64]) -> u8
 pub fn lattrugone_flags_from_byte(b: u8) -> u8
     ensures { result ≡ flags_byte (flags_of b) }
 {
-    let flags = DssFlags::from_byte(b);
-    flags.to_byte()
+    DssFlags::from_byte(b).to_byte()
 }
 
 // The result: length, the type's byte, the flags' byte, correlation.
@@ -65,20 +60,14 @@ pub fn lattrugone_head_parse(data: &[u8], words: &mut [u64]) -> u8
     ensures { Answered (head_words (head_at «data».now 0)) words.old result words.new }
 {
     match DssHeader::parse(data) {
-        HeadFound::Head(head) => {
-            let dss_type = head.dss_type;
-            let flags = head.flags;
-            let type_byte = dss_type.to_byte();
-            let flags_byte = flags.to_byte();
-            put_done(
-                words,
-                head.length as u64,
-                type_byte as u64,
-                flags_byte as u64,
-                head.correlation_id as u64,
-            )
-        }
-        HeadFound::Refused(refused) => put_refusal(words, refused),
+        Ok(head) => put_done(
+            words,
+            u64::from(head.length),
+            u64::from(head.dss_type.to_byte()),
+            u64::from(head.flags.to_byte()),
+            u64::from(head.correlation_id),
+        ),
+        Err(refused) => put_refusal(words, refused),
     }
 }
 
@@ -95,16 +84,15 @@ pub fn lattrugone_head_serialize(
     ensures room_after { room.new ≡ written_room length (type_at dss_type 0) flags correlation_id room.old }
 {
     match DssType::from_byte(dss_type) {
-        TypeFound::Is(is) => {
+        Ok(dss_type) => {
             let head = DssHeader {
                 length,
-                dss_type: is,
+                dss_type,
                 flags: DssFlags::from_byte(flags),
                 correlation_id,
             };
-            let laid = head.serialize(room);
-            put_laid(words, laid)
+            put_laid(words, head.serialize(room))
         }
-        TypeFound::Refused(refused) => put_refusal(words, refused),
+        Err(refused) => put_refusal(words, refused),
     }
 }
