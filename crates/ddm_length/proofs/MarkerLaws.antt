@@ -30,7 +30,7 @@ past_length d = by (marker_first d)
     (λ e. omega (arith, ap length (pick_yes (drop 2 d) d e), length-drop 2 d))
     (λ e. omega (arith, ap length (pick_no (drop 2 d) d e)))
 
-rest_length : (x : ℕ) (d : List ℕ) → length (drop 32764 (past_marker (x ∷ d))) ≤ length d
+pub rest_length : (x : ℕ) (d : List ℕ) → length (drop 32764 (past_marker (x ∷ d))) ≤ length d
 rest_length x d = omega (arith, length-drop 32764 (past_marker (x ∷ d)), past_length (x ∷ d))
 
 -- fuel that suffices is as good as any other that does

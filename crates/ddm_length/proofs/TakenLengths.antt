@@ -2,7 +2,7 @@
 use Rattle.std.specs.Prelude.{Result, Ok, Err}
 use Prim.Native.Nat.{ℕ, ◌+◌, ◌-◌, ◌^◌, ◌≤◌, ◌<◌}
 use native.Mathlib.Omega.{arith}
-use mathlib.Core.Path.{◌≡◌, refl, ap, subst, ◌∙◌}
+use mathlib.Core.Path.{◌≡◌, refl, sym, ap, subst, ◌∙◌}
 use mathlib.Core.Bool.{false}
 use mathlib.Core.List.{List}
 use borrow.Author.Tests.{ltb-true, ltb-false, leb-true, eqb-true, eqb-false, le-leb, lt-ltb, le-ltb, eq-eqb, ne_eqb}
@@ -26,6 +26,10 @@ pub data LengthSays (b : List ℕ) (t h : ℕ) : Type 0 where
   says_inline : 4 ≤ length b → t ≡ be16 b 0 → h ≡ 4 → t < 0x8000 → LengthSays b t h
   says_all : 4 ≤ length b → be16 b 0 ≡ 0x8004 → t ≡ length b → h ≡ 4 → LengthSays b t h
   says_wide : be16 b 0 ≡ 0x8000 + h → 4 < h → h ≤ length b → t ≡ h + spelled 0 (take (h - 4) (drop 4 b)) → t < 2 ^ 64 → LengthSays b t h
+
+-- a total and a header that are said alike
+taken_alike : (x y t h : ℕ) → ◌≡◌ {A = Result Marshaled Refused} (Ok (takes x y)) (Ok (takes t h)) → (t ≡ x) × (h ≡ y)
+taken_alike x y t h e = let m : takes x y ≡ takes t h = cc in (ap (λ (k : Marshaled). k.total) (sym m), ap (λ (k : Marshaled). k.header) (sym m))
 
 never : {P : Type 0} (r : Refused) (t h : ℕ) → Err r ≡ Ok (takes t h) → P
 never r t h e = absurd (let z : ◌≡◌ {A = ℕ} 0 1 = cc in omega arith)
@@ -56,7 +60,8 @@ says_marshaled b t h place (says_wide raw lo there et hi) =
 
 module _ (b : List ℕ) (t h place : ℕ) where
   under : (header total : ℕ) → extended_total place header total ≡ Ok (takes t h) → (t ≡ total) × (h ≡ header) × (total < 2 ^ 64)
-  under header total e = picked (ltb total (2 ^ 64)) e (λ c r. (cc, cc, ltb-true total (2 ^ 64) c)) (λ c r. never _ t h r)
+  under header total e =
+      picked (ltb total (2 ^ 64)) e (λ c r. let p = taken_alike total header t h r in (p.0, p.1, ltb-true total (2 ^ 64) c)) (λ c r. never _ t h r)
 
   beyond : (header : ℕ) → extended b place header ≡ Ok (takes t h)
       → (t ≡ header + spelled 0 (take (header - 4) (drop 4 b))) × (h ≡ header) × (h ≤ length b) × (t < 2 ^ 64) × (4 ≤ header)
@@ -71,10 +76,10 @@ pub marshaled_says : (b : List ℕ) (t h place : ℕ) → marshaled b place ≡ 
 unfolding marshaled
 marshaled_says b t h place e =
     picked (ltb (length b) 4) e (λ c r. never _ t h r)
-    (λ c r. picked (eqb (be16 b 0) 0x8004) r (λ d r. says_all (ltb-false (length b) 4 c) (eqb-true (be16 b 0) 0x8004 d) (cc) (cc))
+    (λ c r. picked (eqb (be16 b 0) 0x8004) r (λ d r. let p = taken_alike (length b) 4 t h r in says_all (ltb-false (length b) 4 c) (eqb-true (be16 b 0) 0x8004 d) p.0 p.1)
     (λ d r. picked (ltb (be16 b 0) 0x8000) r
     (λ g r. let small : be16 b 0 < 0x8000 = ltb-true (be16 b 0) 0x8000 g in
-    let et : t ≡ be16 b 0 = cc in says_inline (ltb-false (length b) 4 c) et (cc) (omega arith))
+    let p = taken_alike (be16 b 0) 4 t h r in says_inline (ltb-false (length b) 4 c) p.0 p.1 (omega arith))
     (λ g r. high d g (beyond b t h place (be16 b 0 - 0x8000) r))))
   where
     high : eqb (be16 b 0) 0x8004 ≡ false → ltb (be16 b 0) 0x8000 ≡ false → (t ≡ be16 b 0 - 0x8000 + spelled 0 (take ((be16 b 0 - 0x8000) - 4) (drop 4 b))) × (h ≡ be16 b 0 - 0x8000) × (h ≤ length b) × (t < 2 ^ 64) × (4 ≤ be16 b 0 - 0x8000) → LengthSays b t h
@@ -107,14 +112,14 @@ pub measured_taken : (b : List ℕ) (t h place : ℕ) → measured b place ≡ O
 unfolding measured
 measured_taken b t h place e = go (marshaled b place) refl e
   where
-    same : (x y : ℕ) → Ok (takes x y) ≡ Ok (takes t h) → LengthSays b x y → y ≤ x → x ≤ length b → TakenLength b t h
-    same x y r w l f = subst2 r (says_taken b x y w l f)
-      where
-        subst2 : Ok (takes x y) ≡ Ok (takes t h) → TakenLength b x y → TakenLength b t h
-        subst2 r k = let et : x ≡ t = cc in let eh : y ≡ h = cc in subst (λ (n : ℕ). TakenLength b n h) et (subst (λ (n : ℕ). TakenLength b x n) eh k)
+    same : (m : Marshaled) → m ≡ takes t h → LengthSays b m.total m.header → m.header ≤ m.total → m.total ≤ length b → TakenLength b t h
+    same m r w l f = subst (λ (n : Marshaled). TakenLength b n.total n.header) r (says_taken b m.total m.header w l f)
+
+    back : (m : Marshaled) → ◌≡◌ {A = Result Marshaled Refused} (Ok m) (Ok (takes t h)) → m ≡ takes t h
+    back m r = cc
 
     go : (m : Result Marshaled Refused) → marshaled b place ≡ m → fitting b place m ≡ Ok (takes t h) → TakenLength b t h
-    go (Ok (takes x y)) q r =
-        picked (ltb x y) r (λ c r. never _ t h r)
-        (λ c r. picked (leb x (length b)) r (λ d r. same x y r (marshaled_says b x y place q) (ltb-false x y c) (leb-true x (length b) d)) (λ d r. never _ t h r))
+    go (Ok m) q r =
+        picked (ltb m.total m.header) r (λ c r. never _ t h r)
+        (λ c r. picked (leb m.total (length b)) r (λ d r. same m (back m r) (marshaled_says b m.total m.header place q) (ltb-false m.total m.header c) (leb-true m.total (length b) d)) (λ d r. never _ t h r))
     go (Err r') q r = never r' t h r

@@ -12,7 +12,6 @@ use Rattle.ddm_length.proofs.measure_at.Reads as measure_at
 use Rattle.ddm_length.proofs.measure_object.Reads as measure_object
 use Rattle.ddm_length.proofs.has_markers.Reads as has_markers
 use Rattle.ddm_length.proofs.unmarked_len.Reads as unmarked_len
-use Rattle.ddm_length.proofs.lay.Reads as lay
 use Rattle.ddm_length.proofs.strip_extended_ddm_continuation_markers.Reads as strip
 use Rattle.ddm_length.specs.declared.Marshaled.{Marshaled}
 use Rattle.answer.specs.declared.Refused.{Refused}
@@ -46,10 +45,6 @@ pub unmarked_len_one : (κs : Lfts 1) (d : Bor (List ℕ)) (r r' : ℕ)
 unmarked_len_one κs d r r' p q = p ∙ sym q
 
 -- ---- rooms
-
-pub lay_one : (κs : Lfts 2) (d : Bor (List ℕ)) (room : MutBor (List ℕ)) (l l' : List ℕ)
-    → lay.Post κs (d, (room, tt)) tt (d, (at_last room l, tt)) → lay.Post κs (d, (room, tt)) tt (d, (at_last room l', tt)) → l ≡ l'
-lay_one κs d room l l' p q = p ∙ sym q
 
 pub strip_one : (κs : Lfts 2) (d : Bor (List ℕ)) (work : MutBor (List ℕ)) (r r' : Result ℕ Refused) (l l' : List ℕ)
     → strip.Post κs (d, (work, tt)) r (d, (at_last work l, tt)) → strip.Post κs (d, (work, tt)) r' (d, (at_last work l', tt))

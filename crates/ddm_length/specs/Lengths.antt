@@ -39,9 +39,9 @@ marshaled b place =
 
 -- "inline length below 4: 5; total longer than the bytes: 4"
 abbrev pub fitting : List ℕ → ℕ → Result Marshaled Refused → Result Marshaled Refused
-fitting b place (Ok (takes total header)) =
-    pick (ltb total header) (refuse place (InlineTooShort total (be16 b 2)))
-    (pick (leb total (length b)) (Ok (takes total header)) (refuse place (BufferTooShort total (length b))))
+fitting b place (Ok m) =
+    pick (ltb m.total m.header) (refuse place (InlineTooShort m.total (be16 b 2)))
+    (pick (leb m.total (length b)) (Ok m) (refuse place (BufferTooShort m.total (length b))))
 fitting b place (Err r) = Err r
 
 unfoldable pub measured : List ℕ → ℕ → Result Marshaled Refused

@@ -1,19 +1,18 @@
--- `ddm_length::extended_at` meets its contract: each return rewrites with the tests that led there, and the number is what
--- `number_of` gives.
-use Rattle.std.specs.Prelude.{Ok}
+-- `ddm_length::extended_at` meets its contract: the number is what `number_of` gives, and it is too large where the whole is.
+use Rattle.std.specs.Prelude.{Ok, Err}
 use Prim.Native.Nat.{ℕ, ◌+◌, ◌-◌, ◌^◌, ◌≤◌, ◌<◌}
 use native.Mathlib.Omega.{arith}
-use mathlib.Core.Path.{◌≡◌, sym, ◌∙◌}
+use mathlib.Core.Path.{◌≡◌, sym, ◌∙◌, ap}
 use mathlib.Core.List.{List}
+use borrow.Author.Tests.{lt-ltb, le-ltb, le-leb}
 use lib.ListN.{length, take, drop}
-use borrow.Author.Tests.{lt-ltb, le-ltb, lt-leb, le-leb}
 use Rattle.wire.specs.Bytes.{spelled}
 use Rattle.wire.proofs.WireLaws.{pick_yes, pick_no}
 use Rattle.answer.specs.declared.Refusal.TheVariants.{LengthTooLarge}
-use Rattle.ddm_length.specs.Lengths.{refuse, extended}
+use Rattle.ddm_length.specs.Lengths.{takes, refuse, extended}
 use Rattle.ddm_length.proofs.NumberSums.{number_is, number_large}
 use Rattle.ddm_length.proofs.extended_at.Goals as goal
-use Rattle.ddm_length.specs.Lengths.{takes}
+use Rattle.ddm_length.proofs.extended_at.Goals.{in_default-via-in-Some+else-n-expected, in_default-via-in_default}
 
 module _ (b : List ℕ) (place header : ℕ) (lo : 4 ≤ header) (there : header ≤ length b) where
   within : (n : ℕ) → spelled 0 (take (header - 4) (drop 4 b)) ≡ n → header + n < 2 ^ 64 → extended b place header ≡ Ok (takes (header + n) header)
@@ -26,28 +25,19 @@ module _ (b : List ℕ) (place header : ℕ) (lo : 4 ≤ header) (there : header
       pick_no _ _ (le-ltb header 4 lo) ∙ pick_yes _ _ (le-leb header (length b) there)
       ∙ pick_no _ _ (le-ltb (header + spelled 0 (take (header - 4) (drop 4 b))) (2 ^ 64) h)
 
-pub returns-then-header-lt4 : goal.returns-then-header-lt4
-returns-then-header-lt4 c = c.refuse_at.ensures ∙ sym (pick_yes _ _ (lt-ltb _ _ c.if-header-lt4.true))
+pub returns-in-Some : goal.returns-in-Some
+returns-in-Some c =
+    let s = c.args in
+    let e = c.from-expected.result in
+    rw (← c.from-expected.ensures) (sym (within s.bytes.now s.place e (omega arith) c.if-actual-expected.false _ (number_is _ _ (sym c.in-Some.ensures)) (omega arith)))
 
-pub returns-then-bytes-end : goal.returns-then-bytes-end
-returns-then-bytes-end c = c.refuse_at-then-bytes-end.ensures ∙ sym (pick_no _ _ (le-ltb _ _ c.if-header-lt4.false) ∙ pick_no _ _ (lt-leb _ _ c.if-bytes-end.true))
-
-pub returns-then-end-n : goal.returns-then-end-n
-returns-then-end-n c =
-    let a = c in
-    let s = a.args in
-    c.refuse_at-then-end-n.ensures
-    ∙ sym (too_large s.bytes.now s.place s.header a.if-header-lt4.false a.if-bytes-end.false (omega (arith, number_is _ _ (sym c.in-Is.ensures))))
-
-pub returns-in-Is : goal.returns-in-Is
-returns-in-Is c =
-    let a = c in
-    let s = a.args in
-    sym (within s.bytes.now s.place s.header a.if-header-lt4.false a.if-bytes-end.false _ (number_is _ _ (sym c.in-Is.ensures)) (omega arith))
-
-pub returns-in-TooLarge : goal.returns-in-TooLarge
-returns-in-TooLarge c =
-    let a = c in
-    let s = a.args in
-    c.refuse_at-in-TooLarge.ensures
-    ∙ sym (too_large s.bytes.now s.place s.header a.if-header-lt4.false a.if-bytes-end.false (omega (arith, number_large _ (sym c.in-TooLarge.ensures))))
+pub returns-in_default : goal.returns-in_default
+returns-in_default c =
+    let s = c.args in
+    let e = c.from-expected.result in
+    let large : 2 ^ 64 ≤ e + spelled 0 (take (e - 4) (drop 4 s.bytes.now)) =
+    elim c.in_default.branch [
+      | in_default-via-in-Some+else-n-expected w ↦ omega (arith, number_is _ _ (sym w.in-Some.ensures))
+      | in_default-via-in_default w ↦ omega (arith, number_large _ (sym w.in_default.ensures))
+    ] in
+    ap Err c.at-in_default.ensures ∙ rw (← c.from-expected.ensures) (sym (too_large s.bytes.now s.place e (omega arith) c.if-actual-expected.false large))

@@ -19,21 +19,11 @@ returns-then-work-need c =
       room_is = sym (laid_kept s.work.now 0 (unmarked s.«data».now) (omega arith));
     }
 
-pub lay_kept-requires : goal.lay_kept-requires
-lay_kept-requires c = record { data_value = sym c.has_markers.ensures ∙ c.if-has_markers.true; data_in_bounds = omega arith }
-
-pub returns-then-has_markers : goal.returns-then-has_markers
-returns-then-has_markers c =
-    record {
-      answers = rw (← c.unmarked_len-need.ensures) (simp (le-leb _ _ c.if-work-need.false));
-      room_is = c.lay_kept.ensures;
-    }
-
-pub returns : goal.returns
+pub returns-else-has_markers : goal.returns-else-has_markers
 unfolding unmarked
-returns c =
+returns-else-has_markers c =
     let s = c.args in
     record {
       answers = rw (← c.unmarked_len-need.ensures) (simp (le-leb _ _ c.if-work-need.false));
-      room_is = c.lay.ensures ∙ ap (laid s.work.now 0) (sym (pick_no _ _ (sym c.has_markers.ensures ∙ c.if-has_markers.false)));
+      room_is = c.copy.ensures ∙ ap (laid s.work.now 0) (sym (pick_no _ _ (sym c.has_markers.ensures ∙ c.if-has_markers.false)));
     }
