@@ -1,5 +1,5 @@
 -- The laws of a frame while it absorbs: what its state in code is of, and what each look makes of it.
-use Rattle.std.specs.Prelude.{Result, Ok, Err}
+use Rattle.std.specs.Prelude.{None, Some, Result, Ok, Err}
 use Prim.Native.Nat.{ℕ, ◌+◌, ◌-◌, ◌≤◌}
 use native.Mathlib.Nat.{add-zero}
 use native.Mathlib.Omega.{arith}
@@ -21,7 +21,7 @@ use Rattle.dss_frame.specs.Segments.{Segment, first, payload_of, end_of}
 use Rattle.dss_frame.specs.Reading.{Look, finished, absorbs, refuses, refusal, look, look_at, follows, own_object, dropped_at, starts_extended, Read, with_chained, absorb}
 use Rattle.dss_laws.proofs.Ends.{end_snoc, payload_one, payload_snoc}
 use Rattle.dss_laws.proofs.Looking.{absorb_finished, absorb_absorbs, absorb_refuses}
-use Rattle.dss_measure.specs.declared.Look.TheVariants.{Finished, Absorbs, Refuses}
+use Rattle.dss_measure.specs.declared.Absorbed.{Absorbed}
 use Rattle.dss_measure.specs.declared.PayloadSoFar.{PayloadSoFar}
 use Rattle.dss_measure.specs.inner.Walking.{looked_of, payload_so_far, extended_by}
 use Rattle.dss_measure.specs.Measure.{measured_of}
@@ -70,31 +70,29 @@ unfolding look
 look_shape rules s t extended q = pick_by (Shape s q) _ _ _ (λ e. finishes) (λ e. shape_at rules s t extended q (head_at s q) (ltb-false _ _ e))
 
 -- what the code's answer says of the look
-pub record Absorbed (s : List ℕ) (q d e : ℕ) (c : Bool) (l : Look) : Type 0 where
-  pub is : l ≡ absorbs (behind_at q d e) c
-  pub room : q + 6 + d ≤ e
-  pub there : e ≤ length s
+pub record Absorbs (s : List ℕ) (q : ℕ) (a : Absorbed) (l : Look) : Type 0 where
+  pub is : l ≡ absorbs (behind_at q a.dropped a.end) a.chained
+  pub room : q + 6 + a.dropped ≤ a.end
+  pub there : a.end ≤ length s
 
-absorbed : (s : List ℕ) (q d e : ℕ) (c : Bool) (l : Look) → Shape s q l → looked_of l ≡ Absorbs d e c → Absorbed s q d e c l
-absorbed s q d e c l finishes k = let z : ◌≡◌ {A = ℕ} 0 1 = cc in absurd (omega arith)
-absorbed s q d e c l (takes d' e' c' a b) k =
-    let x : d' ≡ d = cc in
-    let y : e' ≡ e = cc in
-    let z : c' ≡ c = cc in
+is_absorbed : (s : List ℕ) (q : ℕ) (a : Absorbed) (l : Look) → Shape s q l → looked_of l ≡ Ok (Some a) → Absorbs s q a l
+is_absorbed s q a l finishes k = let z : ◌≡◌ {A = ℕ} 0 1 = cc in absurd (omega arith)
+is_absorbed s q a l (takes d' e' c' i j) k =
+    let x : d' ≡ a.dropped = cc in
+    let y : e' ≡ a.end = cc in
+    let z : c' ≡ a.chained = cc in
     record { is = λ i. absorbs (behind_at q (x i) (y i)) (z i); room = omega arith; there = omega arith }
-absorbed s q d e c l (stops r) k = let z : ◌≡◌ {A = ℕ} 0 1 = cc in absurd (omega arith)
+is_absorbed s q a l (stops r) k = let z : ◌≡◌ {A = ℕ} 0 1 = cc in absurd (omega arith)
 
-is_finished : (l : Look) → looked_of l ≡ Finished → l ≡ finished
+is_finished : (l : Look) → looked_of l ≡ Ok None → l ≡ finished
 is_finished finished k = refl
 is_finished (absorbs g c) k = let z : ◌≡◌ {A = ℕ} 0 1 = cc in absurd (omega arith)
 is_finished (refuses r) k = let z : ◌≡◌ {A = ℕ} 0 1 = cc in absurd (omega arith)
 
-is_refused : (l : Look) (r : Refused) → looked_of l ≡ Refuses r → l ≡ refuses r
+is_refused : (l : Look) (r : Refused) → looked_of l ≡ Err r → l ≡ refuses r
 is_refused finished r k = let z : ◌≡◌ {A = ℕ} 0 1 = cc in absurd (omega arith)
 is_refused (absorbs g c) r k = let z : ◌≡◌ {A = ℕ} 0 1 = cc in absurd (omega arith)
 is_refused (refuses r') r k = cc
-
--- ---- the payload of one segment more
 
 -- ---- the state
 
@@ -126,21 +124,21 @@ module _ (rules : Rules) (s : List ℕ) (p : ℕ) (read : Read) (h : DssHeader) 
   looks = ap₂ (λ (b : Bool) (q : ℕ). look rules s h.dss_type b q) (sym (z ∙ ap extended_by w.holds)) (sym w.ends)
 
   -- finished: the state is the measure
-  pub absorbing_finished : looked_of (look rules s h.dss_type x e) ≡ Finished
+  pub absorbing_finished : looked_of (look rules s h.dss_type x e) ≡ Ok None
       → measured_of s p read ≡ Ok (record { header = h; payload_len = v.len; segments = k; end = e })
   absorbing_finished l =
       ap (measured_of s p) (w.same ∙ absorb_finished rules s p h w.segments (looks ∙ is_finished _ l))
       ∙ sym (λ i. Ok (record { header = h; payload_len = (w.holds i).len; segments = w.counted i; end = w.ends i }))
 
   -- refused
-  pub absorbing_refused : (r : Refused) → looked_of (look rules s h.dss_type x e) ≡ Refuses r → measured_of s p read ≡ Err r
+  pub absorbing_refused : (r : Refused) → looked_of (look rules s h.dss_type x e) ≡ Err r → measured_of s p read ≡ Err r
   absorbing_refused r l = ap (measured_of s p) (w.same ∙ absorb_refuses rules s p h w.segments r (looks ∙ is_refused _ r l))
 
   -- absorbed: where that segment lies
-  pub absorbing_there : (d n : ℕ) (c : Bool) → looked_of (look rules s h.dss_type x e) ≡ Absorbs d n c → (e + 6 + d ≤ n) × (n ≤ length s)
-  absorbing_there d n c l =
-      let a : Absorbed s e d n c (look rules s h.dss_type x e) = absorbed s e d n c _ (look_shape rules s h.dss_type x e) l in
-      (a.room, a.there)
+  pub absorbing_there : (a : Absorbed) → looked_of (look rules s h.dss_type x e) ≡ Ok (Some a) → (e + 6 + a.dropped ≤ a.end) × (a.end ≤ length s)
+  absorbing_there a l =
+      let b : Absorbs s e a (look rules s h.dss_type x e) = is_absorbed s e a _ (look_shape rules s h.dss_type x e) l in
+      (b.room, b.there)
 
   -- how long the payload is with it
   pub absorbing_len : (a n : ℕ) (u : PayloadSoFar) → n ≤ length s → ((payload : List ℕ) → v ≡ payload_so_far payload → u ≡ payload_so_far (payload ++ part s a n)) → u.len ≡ v.len + (n - a)
@@ -151,15 +149,16 @@ module _ (rules : Rules) (s : List ℕ) (p : ℕ) (read : Read) (h : DssHeader) 
       ∙ ap₂ (λ (l m : ℕ). l + m) (sym (ap (λ (y : PayloadSoFar). y.len) w.holds)) (part_length s a n i)
 
   -- and the state with it
-  pub absorbing_more : (d n : ℕ) (c : Bool) (u : PayloadSoFar) → looked_of (look rules s h.dss_type x e) ≡ Absorbs d n c
-      → ((payload : List ℕ) → v ≡ payload_so_far payload → u ≡ payload_so_far (payload ++ part s (e + 6 + d) n))
-      → Absorbing rules s p read (with_chained h c) (k + 1) n u
-  absorbing_more d n c u l grows =
-      let a : Absorbed s e d n c (look rules s h.dss_type x e) = absorbed s e d n c _ (look_shape rules s h.dss_type x e) l in
+  pub absorbing_more : (a : Absorbed) (u : PayloadSoFar) → looked_of (look rules s h.dss_type x e) ≡ Ok (Some a)
+      → ((payload : List ℕ) → v ≡ payload_so_far payload → u ≡ payload_so_far (payload ++ part s (e + 6 + a.dropped) a.end))
+      → Absorbing rules s p read (with_chained h a.chained) (k + 1) a.end u
+  absorbing_more a u l grows =
+      let b : Absorbs s e a (look rules s h.dss_type x e) = is_absorbed s e a _ (look_shape rules s h.dss_type x e) l in
+      let g : Segment = behind_at e a.dropped a.end in
       record {
-        segments = w.segments ++ (behind_at e d n ∷ []);
-        same = w.same ∙ absorb_absorbs rules s p h w.segments (behind_at e d n) c (looks ∙ a.is);
-        counted = ap (λ (m : ℕ). m + 1) w.counted ∙ sym (length-append w.segments (behind_at e d n ∷ []));
-        ends = sym (end_snoc p w.segments (behind_at e d n));
-        holds = grows (payload_of s w.segments) w.holds ∙ ap payload_so_far (sym (payload_snoc s w.segments (behind_at e d n)));
+        segments = w.segments ++ (g ∷ []);
+        same = w.same ∙ absorb_absorbs rules s p h w.segments g a.chained (looks ∙ b.is);
+        counted = ap (λ (m : ℕ). m + 1) w.counted ∙ sym (length-append w.segments (g ∷ []));
+        ends = sym (end_snoc p w.segments g);
+        holds = grows (payload_of s w.segments) w.holds ∙ ap payload_so_far (sym (payload_snoc s w.segments g));
       }

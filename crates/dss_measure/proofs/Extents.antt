@@ -2,11 +2,11 @@
 use Rattle.std.specs.Prelude.{Result, Ok, Err}
 use Prim.Native.Nat.{ℕ}
 use native.Mathlib.Omega.{arith}
-use mathlib.Core.Path.{◌≡◌, refl}
+use mathlib.Core.Path.{◌≡◌, refl, ap}
 use Rattle.answer.specs.declared.Refused.{Refused}
+use Rattle.dss_measure.specs.declared.Extent.{Extent}
 use Rattle.dss_measure.specs.declared.FrameMeasure.{FrameMeasure}
-use Rattle.dss_measure.specs.Measure.{extent_of}
-use Rattle.dss_measure.specs.Measure.{extent}
+use Rattle.dss_measure.specs.Measure.{extent, extent_of}
 
 -- the measure of a frame whose payload has n bytes and which ends at e
 pub record Spanned (n e : ℕ) (x : Result FrameMeasure Refused) : Type 0 where
@@ -16,7 +16,9 @@ pub record Spanned (n e : ℕ) (x : Result FrameMeasure Refused) : Type 0 where
   pub ends : e ≡ measure.end
 
 pub spanned : (n e : ℕ) (x : Result FrameMeasure Refused) → extent_of x ≡ Ok (extent n e) → Spanned n e x
-spanned n e (Ok m) k = record { measure = m; is = refl; long = cc; ends = cc }
+spanned n e (Ok m) k =
+    let z : extent n e ≡ extent m.payload_len m.end = cc in
+    record { measure = m; is = refl; long = ap (λ (x : Extent). x.payload_len) z; ends = ap (λ (x : Extent). x.end) z }
 spanned n e (Err r) k = let z : ◌≡◌ {A = ℕ} 0 1 = cc in absurd (omega arith)
 
 pub not_spanned : (r : Refused) (x : Result FrameMeasure Refused) → extent_of x ≡ Err r → x ≡ Err r

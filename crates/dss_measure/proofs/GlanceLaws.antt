@@ -21,7 +21,7 @@ use Rattle.dss_frame.specs.Segments.{first}
 use Rattle.dss_frame.specs.Reading.{finished, look_at, absorb}
 use Rattle.dss_laws.proofs.Looking.{look_nothing}
 use Rattle.dss_measure.specs.declared.PayloadSoFar.{PayloadSoFar}
-use Rattle.dss_measure.specs.inner.Walking.{looked_of, payload_so_far, extended_by}
+use Rattle.dss_measure.specs.inner.Walking.{walked, looked_of, payload_so_far, extended_by}
 use Rattle.dss_measure.specs.Measure.{measured_of, measured_at}
 use Rattle.dss_measure.proofs.LookLaws.{look_head}
 use Rattle.dss_measure.proofs.WalkLaws.{single}
@@ -79,5 +79,5 @@ pub lone_measured : (rules : Rules) (s : List ℕ) (p n : ℕ) (w : Lone s p n)
     → measured_at rules s p ≡ Ok (record { header = w.headed.head; payload_len = n - 6; segments = 1; end = p + n })
 lone_measured rules s p n w =
     let h = w.headed in
-    measured_single rules s p (p + n) 1 (n - 6) (single rules s p n w.raw_is h.six w.one w.there) h.head h.found n w.raw_is w.one w.six
+    measured_single rules s p (walked (p + n) 1 (n - 6)) (single rules s p n w.raw_is h.six w.one w.there) h.head h.found n w.raw_is w.one w.six
     ∙ single_apart rules s p n h.head (omega (arith, h.six, w.there)) w.apart

@@ -17,10 +17,10 @@ use Rattle.dss_head.specs.declared.DssHeader.{DssHeader}
 use Rattle.dss_frame.specs.declared.Rules.{Rules}
 use Rattle.dss_frame.specs.Segments.{Segment, Walk, whole, short, dead, first, payload_of, end_of, frame_walk}
 use Rattle.dss_frame.specs.Reading.{refused, read_at, read_walk, read_head, absorb}
-use Rattle.dss_measure.specs.declared.Walked.TheVariants.{Whole, Short, Dead}
+use Rattle.dss_measure.specs.declared.Walked.{Walked}
 use Rattle.dss_measure.specs.inner.Walking.{walked_of, walked_at}
 use Rattle.dss_measure.specs.Measure.{measured_of, measured_at}
-use Rattle.dss_measure.proofs.WalkLaws.{frame_nothing, single_short, single_walk}
+use Rattle.dss_measure.proofs.WalkLaws.{waits_at, dead_at, frame_nothing, single_short, single_walk}
 
 module _ (rules : Rules) (s : List ℕ) (p : ℕ) where
   -- "order: 10"
@@ -33,53 +33,51 @@ module _ (rules : Rules) (s : List ℕ) (p : ℕ) where
   reads h w e = ap (measured_of s p) (pick_yes _ _ (le-leb p (length s) h) ∙ ap (read_walk rules s p) e)
 
   -- "1", and 16
-  short_walk : (w : Walk) → walked_of s p w ≡ Short → read_walk rules s p w ≡ refused (record { why = Incomplete; place = p })
-  short_walk (whole gs) e = let z : ◌≡◌ {A = ℕ} 0 1 = cc in absurd (omega arith)
-  short_walk short e = refl
-  short_walk (dead q) e = let z : ◌≡◌ {A = ℕ} 0 1 = cc in absurd (omega arith)
+  not_walk : (w : Walk) (r : Refused) → walked_of s p w ≡ Err r → read_walk rules s p w ≡ refused r
+  not_walk (whole gs) r e = let z : ◌≡◌ {A = ℕ} 0 1 = cc in absurd (omega arith)
+  not_walk short r e = ap refused cc
+  not_walk (dead q) r e = ap refused cc
 
-  dead_walk : (w : Walk) (d : ℕ) → walked_of s p w ≡ Dead d → read_walk rules s p w ≡ refused (record { why = DeadContinuation; place = d })
-  dead_walk (whole gs) d e = let z : ◌≡◌ {A = ℕ} 0 1 = cc in absurd (omega arith)
-  dead_walk short d e = let z : ◌≡◌ {A = ℕ} 0 1 = cc in absurd (omega arith)
-  dead_walk (dead q) d e = let z : q ≡ d = cc in ap (λ (x : ℕ). refused (record { why = DeadContinuation; place = x })) z
-
-  pub measured_short : p ≤ length s → walked_at rules s p ≡ Short → measured_at rules s p ≡ Err (record { why = Incomplete; place = p })
+  pub measured_not_whole : (r : Refused) → p ≤ length s → walked_at rules s p ≡ Err r → measured_at rules s p ≡ Err r
   unfolding walked_at
-  measured_short h e = reads h (frame_walk rules s p) refl ∙ ap (measured_of s p) (short_walk (frame_walk rules s p) e)
+  measured_not_whole r h e = reads h (frame_walk rules s p) refl ∙ ap (measured_of s p) (not_walk (frame_walk rules s p) r e)
 
-  pub measured_dead : (d : ℕ) → p ≤ length s → walked_at rules s p ≡ Dead d → measured_at rules s p ≡ Err (record { why = DeadContinuation; place = d })
-  unfolding walked_at
-  measured_dead d h e = reads h (frame_walk rules s p) refl ∙ ap (measured_of s p) (dead_walk (frame_walk rules s p) d e)
+  pub measured_short : p ≤ length s → walked_at rules s p ≡ waits_at p → measured_at rules s p ≡ Err (record { why = Incomplete; place = p })
+  measured_short h e = measured_not_whole _ h e
+
+  pub measured_dead : (d : ℕ) → p ≤ length s → walked_at rules s p ≡ dead_at d → measured_at rules s p ≡ Err (record { why = DeadContinuation; place = d })
+  measured_dead d h e = measured_not_whole _ h e
 
   -- ---- the frame is whole
 
-  -- the walk's segments end at e, are k, and hold n bytes
-  record OfWalk (e k n : ℕ) (w : Walk) : Type 0 where
+  -- what is walked over are the walk's segments: where they end, how many they are and how many bytes they hold
+  record OfWalk (x : Walked) (w : Walk) : Type 0 where
     segments : List Segment
     is : w ≡ whole segments
-    ends : end_of p segments ≡ e
-    counted : length segments ≡ k
-    long : length (payload_of s segments) ≡ n
+    ends : end_of p segments ≡ x.end
+    counted : length segments ≡ x.segments
+    long : length (payload_of s segments) ≡ x.payload_len
 
-  whole_walk : (e k n : ℕ) (w : Walk) → walked_of s p w ≡ Whole e k n → OfWalk e k n w
-  whole_walk e k n (whole gs) w = record { segments = gs; is = refl; ends = cc; counted = cc; long = cc }
-  whole_walk e k n short w = let z : ◌≡◌ {A = ℕ} 0 1 = cc in absurd (omega arith)
-  whole_walk e k n (dead q) w = let z : ◌≡◌ {A = ℕ} 0 1 = cc in absurd (omega arith)
+  whole_walk : (x : Walked) (w : Walk) → walked_of s p w ≡ Ok x → OfWalk x w
+  whole_walk x (whole gs) e =
+      record { segments = gs; is = refl; ends = cc; counted = cc; long = cc }
+  whole_walk x short e = let z : ◌≡◌ {A = ℕ} 0 1 = cc in absurd (omega arith)
+  whole_walk x (dead q) e = let z : ◌≡◌ {A = ℕ} 0 1 = cc in absurd (omega arith)
 
-  module _ (e k n : ℕ) (w : walked_at rules s p ≡ Whole e k n) where
+  module _ (x : Walked) (w : walked_at rules s p ≡ Ok x) where
     -- six bytes are there
     pub whole_six : 6 ≤ length s - p
     whole_six =
         by (ltb (length s - p) 6)
-        (λ t. let x : walked_at rules s p ≡ Short = frame_nothing rules s p (ltb-true _ _ t) in let z : ◌≡◌ {A = ℕ} 0 1 = cc in absurd (omega arith))
+        (λ t. let y : walked_at rules s p ≡ waits_at p = frame_nothing rules s p (ltb-true _ _ t) in let z : ◌≡◌ {A = ℕ} 0 1 = cc in absurd (omega arith))
         (λ t. ltb-false _ _ t)
 
-    of_walk : OfWalk e k n (frame_walk rules s p)
+    of_walk : OfWalk x (frame_walk rules s p)
     unfolding walked_at
-    of_walk = whole_walk e k n (frame_walk rules s p) w
+    of_walk = whole_walk x (frame_walk rules s p) w
 
     headed : (f : Result DssHeader Refused) → f ≡ head_at s p → measured_at rules s p ≡ measured_of s p (read_head rules s p of_walk.segments f)
-    headed f i = reads (omega (arith, whole_six)) (whole of_walk.segments) of_walk.is ∙ ap (λ (x : Result DssHeader Refused). measured_of s p (read_head rules s p of_walk.segments x)) (sym i)
+    headed f i = reads (omega (arith, whole_six)) (whole of_walk.segments) of_walk.is ∙ ap (λ (y : Result DssHeader Refused). measured_of s p (read_head rules s p of_walk.segments y)) (sym i)
 
     -- "then head 2, 3"
     pub measured_refused : (r : Refused) → Err r ≡ head_at s p → measured_at rules s p ≡ Err r
@@ -91,10 +89,10 @@ module _ (rules : Rules) (s : List ℕ) (p : ℕ) where
       measured_length m =
           headed (Ok h) i
           ∙ ap (measured_of s p) (pick_yes _ _ (lt-ltb (be16 s p) 6 (omega arith)))
-          ∙ ap (λ (x : ℕ). Err (record { why = LengthTooShort x; place = p })) (sym l)
+          ∙ ap (λ (y : ℕ). Err (record { why = LengthTooShort y; place = p })) (sym l)
 
       -- "A 0xFFFF frame is its chunks joined, head length 32,767, and nothing is absorbed"
-      pub measured_several : raw ≡ 65535 → measured_at rules s p ≡ Ok (record { header = h; payload_len = n; segments = k; end = e })
+      pub measured_several : raw ≡ 65535 → measured_at rules s p ≡ Ok (record { header = h; payload_len = x.payload_len; segments = x.segments; end = x.end })
       measured_several m =
           headed (Ok h) i
           ∙ ap (measured_of s p) (pick_no _ _ (le-ltb (be16 s p) 6 (omega arith)) ∙ pick_yes _ _ (eq-eqb (be16 s p) 65535 (sym l ∙ m)))
@@ -105,11 +103,11 @@ module _ (rules : Rules) (s : List ℕ) (p : ℕ) where
         pub single_there : raw ≤ length s - p
         single_there =
             by (leb raw (length s - p)) (λ t. leb-true _ _ t)
-            (λ t. let x : walked_at rules s p ≡ Short = single_short rules s p raw l whole_six m (leb-false _ _ t) in let z : ◌≡◌ {A = ℕ} 0 1 = cc in absurd (omega arith))
+            (λ t. let y : walked_at rules s p ≡ waits_at p = single_short rules s p raw l whole_six m (leb-false _ _ t) in let z : ◌≡◌ {A = ℕ} 0 1 = cc in absurd (omega arith))
 
         -- "Any other frame then looks at what follows"
         pub measured_single : 6 ≤ raw → measured_at rules s p ≡ measured_of s p (absorb rules s p h (first p raw ∷ []))
         measured_single j =
             reads (omega (arith, whole_six)) (whole (first p raw ∷ [])) (single_walk rules s p raw l whole_six m single_there)
-            ∙ ap (λ (x : Result DssHeader Refused). measured_of s p (read_head rules s p (first p raw ∷ []) x)) (sym i)
+            ∙ ap (λ (y : Result DssHeader Refused). measured_of s p (read_head rules s p (first p raw ∷ []) y)) (sym i)
             ∙ ap (measured_of s p) (pick_no _ _ (le-ltb (be16 s p) 6 (omega arith)) ∙ pick_no _ _ (ne_eqb (be16 s p) 65535 (λ y. m (l ∙ y))))

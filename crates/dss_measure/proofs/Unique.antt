@@ -1,5 +1,5 @@
 -- Any two outcomes that a contract of this crate allows are equal. Each statement names the contract, and doesn't write it again.
-use Rattle.std.specs.Prelude.{Result}
+use Rattle.std.specs.Prelude.{Option, Result}
 use Prim.Native.Nat.{ℕ}
 use mathlib.Core.Path.{◌≡◌, refl, sym, ◌∙◌}
 use mathlib.Core.Bool.{Bool}
@@ -14,7 +14,7 @@ use Rattle.dss_frame.specs.declared.DssFrame.{DssFrame}
 use Rattle.dss_frame.specs.declared.Rules.{Rules}
 use Rattle.dss_frame.specs.Reading.{look}
 use Rattle.dss_measure.specs.declared.FrameMeasure.{FrameMeasure}
-use Rattle.dss_measure.specs.declared.Look.{Look}
+use Rattle.dss_measure.specs.declared.Absorbed.{Absorbed}
 use Rattle.dss_measure.specs.declared.Walked.{Walked}
 use Rattle.dss_measure.specs.inner.Walking.{walked_at, looked_of}
 use Rattle.dss_measure.specs.Measure.{measured_at, extent_of}
@@ -37,12 +37,12 @@ pub chunk_under_one : (κs : Lfts 0) (rules : Rules) (raw : ℕ) (r r' : Chunk)
     → chunk_under_call.Post κs (rules, (raw, tt)) r (rules, (raw, tt)) → chunk_under_call.Post κs (rules, (raw, tt)) r' (rules, (raw, tt)) → r ≡ r'
 chunk_under_one κs rules raw r r' p q = p ∙ sym q
 
-pub walk_frame_one : (κs : Lfts 1) (rules : Rules) (run : Bor (List ℕ)) (at : ℕ) (r r' : Walked)
+pub walk_frame_one : (κs : Lfts 1) (rules : Rules) (run : Bor (List ℕ)) (at : ℕ) (r r' : Result Walked Refused)
     → walk_frame.Post κs (rules, (run, (at, tt))) r (rules, (run, (at, tt))) → walk_frame.Post κs (rules, (run, (at, tt))) r' (rules, (run, (at, tt)))
     → r ≡ r'
 walk_frame_one κs rules run at r r' p q = p ∙ sym q
 
-pub look_behind_one : (κs : Lfts 1) (rules : Rules) (run : Bor (List ℕ)) (first : DssType) (extended : Bool) (at : ℕ) (r r' : Look)
+pub look_behind_one : (κs : Lfts 1) (rules : Rules) (run : Bor (List ℕ)) (first : DssType) (extended : Bool) (at : ℕ) (r r' : Result (Option Absorbed) Refused)
     → look_behind.Post κs (rules, (run, (first, (extended, (at, tt))))) r (rules, (run, (first, (extended, (at, tt)))))
     → look_behind.Post κs (rules, (run, (first, (extended, (at, tt))))) r' (rules, (run, (first, (extended, (at, tt)))))
     → r ≡ r'

@@ -1,6 +1,6 @@
 // What can be told of a frame at a glance. Most frames are one segment behind which nothing can belong to it, and to measure one
 // costs more than this.
-ghost use Rattle.std.specs.Prelude.{◌≡◌, true, ◌<◌};
+ghost use Rattle.std.specs.Prelude.{◌≡◌, true, IfSome};
 ghost use Rattle.dss_measure.specs.inner.Glancing.{Headed, StandsApart, Lone};
 
 use super::left;
@@ -16,11 +16,7 @@ pub(crate) fn has_head(run: &[u8], at: usize) -> bool
     if run[at + 2] != DSS_MAGIC {
         return false;
     }
-    let low = run[at + 3] % 16;
-    if low == 0 {
-        return false;
-    }
-    low <= DSS_LAST_TYPE
+    matches!(run[at + 3] % 16, 1..=DSS_LAST_TYPE)
 }
 
 // Whether nothing that stands at a place can belong to a frame before it: fewer than six bytes are left, or a head has same
@@ -37,26 +33,26 @@ pub(crate) fn stands_apart(run: &[u8], at: usize) -> bool
     run[at + 3] / 0x10 % 2 == 0
 }
 
-// The bytes of a frame of one segment behind which nothing can belong to it; 0 where a frame isn't told to be one.
-pub(crate) fn lone_len(run: &[u8], at: usize) -> usize
-    ensures { 0 < result → Lone run.now at result }
+// The bytes of a frame of one segment behind which nothing can belong to it; none where a frame isn't told to be one.
+pub(crate) fn lone_len(run: &[u8], at: usize) -> Option<usize>
+    ensures { IfSome result (λ len. Lone run.now at len) }
 {
     if !has_head(run, at) {
-        return 0;
+        return None;
     }
     let raw = wire::u16_at(run, at);
     if raw == DSS_CONTINUED {
-        return 0;
+        return None;
     }
-    let len = raw as usize;
+    let len = usize::from(raw);
     if len < DSS_HEADER_LEN {
-        return 0;
+        return None;
     }
     if left(run, at) < len {
-        return 0;
+        return None;
     }
     if !stands_apart(run, at + len) {
-        return 0;
+        return None;
     }
-    len
+    Some(len)
 }

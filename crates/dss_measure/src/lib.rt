@@ -5,20 +5,20 @@ mod behind; // behind.rt: what a head behind a frame comes to
 mod glance; // glance.rt: what can be told of a frame without measuring it
 mod payload; // payload.rt: what is kept of the payload so far
 
-ghost use Rattle.std.specs.Prelude.{◌≡◌, ◌+◌, ◌-◌, ◌≤◌, [], ◌∷◌, length};
+ghost use Rattle.std.specs.Prelude.{◌≡◌, ◌+◌, ◌-◌, ◌≤◌, [], ◌∷◌, length, Ok};
 ghost use Rattle.dss_head.specs.Heads.{head_at};
 ghost use Rattle.dss_frame.specs.Rules.{chunk_under};
 ghost use Rattle.dss_frame.specs.Segments.{first, continuations};
-ghost use Rattle.dss_frame.specs.Reading.{look, with_chained, absorb};
+ghost use Rattle.dss_frame.specs.Reading.{look, absorb};
 ghost use Rattle.dss_measure.specs.Measure.{measured_at, measured_of, measured_record, extent_of};
-ghost use Rattle.dss_measure.specs.inner.Walking.{walked_of, walked_at, adds, looked_of};
+ghost use Rattle.dss_measure.specs.inner.Walking.{walked_from, walked_at, adds, looked_of};
 
 use answer::{Refusal, Refused};
 use dss_frame::{DssFrame, Rules};
 use dss_head::{
     Chunk, DSS_CONTINUATION_HEADER_LEN, DSS_CONTINUATION_PAYLOAD_LEN, DSS_CONTINUED,
     DSS_FIRST_PAYLOAD_LEN, DSS_FULL_SEGMENT_LEN, DSS_HEADER_LEN, DSS_MAX_SEGMENT_LEN, DssHeader,
-    DssType, HeadFound,
+    DssType,
 };
 
 // A frame before its payload is taken: its head, with the last segment's chained flag, its payload's length, its segments,
@@ -36,9 +36,8 @@ impl FrameMeasure {
     pub fn record(self, at: usize, payload_at: usize) -> DssFrame
         ensures { result ≡ measured_record at payload_at self }
     {
-        let header = self.header;
         DssFrame {
-            header,
+            header: self.header,
             payload_at,
             payload_len: self.payload_len,
             segments: self.segments,
@@ -48,44 +47,29 @@ impl FrameMeasure {
     }
 }
 
-// What measuring comes to: every refusal but 9.
-#[derive(Clone, Copy)]
-pub enum Measured {
-    Frame(FrameMeasure),
-    Refused(Refused),
-}
-
 // A frame's extent alone: its payload's length and the byte after its last.
 #[derive(Clone, Copy)]
-pub enum Extent {
-    Frame { payload_len: usize, end: usize },
-    Refused(Refused),
+pub struct Extent {
+    pub payload_len: usize,
+    pub end: usize,
 }
 
 // What the walk over a frame's own segments comes to: the byte after the last, how many there are and how long the payload
-// is; or that bytes are missing; or where a continuation length of 0 or 1 stands, which no further bytes can mend.
+// is.
 #[derive(Clone, Copy)]
-pub enum Walked {
-    Whole {
-        end: usize,
-        segments: usize,
-        payload_len: usize,
-    },
-    Short,
-    Dead(usize),
+pub struct Walked {
+    pub end: usize,
+    pub segments: usize,
+    pub payload_len: usize,
 }
 
-// What a look at what follows a frame says: nothing more belongs to it; or the segment there does, of which so many marker bytes
-// are dropped, which ends there, and whose chained flag this is; or the head there is refused.
+// A segment behind a frame that belongs to it: so many marker bytes of it are dropped, it ends there, and this is its chained
+// flag.
 #[derive(Clone, Copy)]
-pub enum Look {
-    Finished,
-    Absorbs {
-        dropped: usize,
-        end: usize,
-        chained: bool,
-    },
-    Refuses(Refused),
+pub struct Absorbed {
+    pub dropped: usize,
+    pub end: usize,
+    pub chained: bool,
 }
 
 // A payload so far: its length and its first two bytes, 0 where there is none.
@@ -100,14 +84,11 @@ pub struct PayloadSoFar {
 pub(crate) fn left(run: &[u8], at: usize) -> usize
     ensures { result ≡ length run.now - at }
 {
-    if run.len() <= at {
-        return 0;
-    }
-    run.len() - at
+    run.len().saturating_sub(at)
 }
 
 // The head at a place, and a refusal's place in the run.
-pub fn head_at(run: &[u8], at: usize) -> HeadFound
+pub fn head_at(run: &[u8], at: usize) -> Result<DssHeader, Refused>
     ensures { result ≡ head_at run.now at }
 {
     if run.len() < at {
@@ -115,14 +96,11 @@ pub fn head_at(run: &[u8], at: usize) -> HeadFound
             expected: DSS_HEADER_LEN,
             actual: 0,
         };
-        return HeadFound::Refused(Refused { why, place: at });
+        return Err(why.at(at));
     }
     match DssHeader::parse(&run[at..]) {
-        HeadFound::Head(header) => HeadFound::Head(header),
-        HeadFound::Refused(refused) => {
-            let why = refused.why;
-            HeadFound::Refused(Refused { why, place: at })
-        }
+        Ok(header) => Ok(header),
+        Err(refused) => Err(refused.why.at(at)),
     }
 }
 
@@ -141,112 +119,105 @@ pub fn chunk_under(rules: Rules, raw: u16) -> Chunk
     }
 }
 
-// The walk over the continuations from a place on, behind so many segments with so much payload.
+// The walk over a frame's continuations, behind what of the frame at a place is walked over.
 pub(crate) fn walk_on(
     rules: Rules,
     run: &[u8],
-    from: usize,
-    before: usize,
-    payload_before: usize,
-) -> Walked
-    requires { (before ≤ from) × (payload_before ≤ from) × (from ≤ length run.now) }
-    ensures { result ≡ adds before payload_before (walked_of run.now from (continuations rules run.now from)) }
+    at: usize,
+    before: Walked,
+) -> Result<Walked, Refused>
+    requires { (before.segments ≤ before.end) × (before.payload_len ≤ before.end) × (before.end ≤ length run.now) }
+    ensures { result ≡ adds before.segments before.payload_len (walked_from run.now at before.end (continuations rules run.now before.end)) }
 {
-    let mut at = from;
-    let mut segments = before;
-    let mut payload_len = payload_before;
-    let end = loop {
-        let there = run.len() - at;
+    let Walked {
+        mut end,
+        mut segments,
+        mut payload_len,
+    } = before;
+    loop {
+        let there = run.len() - end;
         if there < DSS_CONTINUATION_HEADER_LEN {
-            break Walked::Short;
+            return Err(Refusal::Incomplete.at(at));
         }
-        let raw = wire::u16_at(run, at);
+        let raw = wire::u16_at(run, end);
         match chunk_under(rules, raw) {
             Chunk::Dead => {
-                break Walked::Dead(at);
+                return Err(Refusal::DeadContinuation.at(end));
             }
             Chunk::Last => {
-                let continuation_len = raw as usize;
+                let continuation_len = usize::from(raw);
                 if there < continuation_len {
-                    break Walked::Short;
+                    return Err(Refusal::Incomplete.at(at));
                 }
-                break Walked::Whole {
-                    end: at + continuation_len,
+                return Ok(Walked {
+                    end: end + continuation_len,
                     segments: segments + 1,
                     payload_len: payload_len + (continuation_len - DSS_CONTINUATION_HEADER_LEN),
-                };
+                });
             }
             Chunk::Full => {
                 if there < DSS_FULL_SEGMENT_LEN {
-                    break Walked::Short;
+                    return Err(Refusal::Incomplete.at(at));
                 }
-                at += DSS_FULL_SEGMENT_LEN;
+                end += DSS_FULL_SEGMENT_LEN;
                 segments += 1;
                 payload_len += DSS_CONTINUATION_PAYLOAD_LEN;
             }
         }
-    };
-    end
+    }
 }
 
-// The frame's end: its own segments, before anything that follows is looked at.
-pub fn walk_frame(rules: Rules, run: &[u8], at: usize) -> Walked
+// The frame's end: its own segments, before anything that follows is looked at. A frame that isn't whole is 1 at its first byte, or
+// 16 where a continuation length of 0 or 1 stands, which no further bytes can mend.
+pub fn walk_frame(rules: Rules, run: &[u8], at: usize) -> Result<Walked, Refused>
     ensures { result ≡ walked_at rules run.now at }
 {
     let there = left(run, at);
     if there < DSS_HEADER_LEN {
-        return Walked::Short;
+        return Err(Refusal::Incomplete.at(at));
     }
     let raw = wire::u16_at(run, at);
     if raw == DSS_CONTINUED {
         if there < DSS_FULL_SEGMENT_LEN {
-            return Walked::Short;
+            return Err(Refusal::Incomplete.at(at));
         }
-        return walk_on(
-            rules,
-            run,
-            at + DSS_FULL_SEGMENT_LEN,
-            1,
-            DSS_FIRST_PAYLOAD_LEN,
-        );
+        let first = Walked {
+            end: at + DSS_FULL_SEGMENT_LEN,
+            segments: 1,
+            payload_len: DSS_FIRST_PAYLOAD_LEN,
+        };
+        return walk_on(rules, run, at, first);
     }
-    let seg_len = raw as usize;
+    let seg_len = usize::from(raw);
     if there < seg_len {
-        return Walked::Short;
+        return Err(Refusal::Incomplete.at(at));
     }
-    // A length below six leaves no payload.
-    let payload_len = if seg_len < DSS_HEADER_LEN {
-        0
-    } else {
-        seg_len - DSS_HEADER_LEN
-    };
-    Walked::Whole {
+    Ok(Walked {
         end: at + seg_len,
         segments: 1,
-        payload_len,
-    }
+        // A length below six leaves no payload.
+        payload_len: seg_len.saturating_sub(DSS_HEADER_LEN),
+    })
 }
 
 // A look at what stands at a place behind a frame whose first segment has a type, and whose payload so far starts an extended
-// object or not.
-pub fn look_behind(rules: Rules, run: &[u8], first: DssType, extended: bool, at: usize) -> Look
+// object or not: the segment there, if it belongs to the frame.
+pub fn look_behind(
+    rules: Rules,
+    run: &[u8],
+    first: DssType,
+    extended: bool,
+    at: usize,
+) -> Result<Option<Absorbed>, Refused>
     ensures { result ≡ looked_of (look rules run.now first extended at) }
 {
     if left(run, at) < DSS_HEADER_LEN {
-        return Look::Finished;
+        return Ok(None);
     }
     match head_at(run, at) {
-        HeadFound::Head(header) => behind::look_head(rules, run, first, extended, at, header),
-        HeadFound::Refused(refused) => behind::refusal(rules, refused),
+        Ok(header) => behind::look_head(rules, run, first, extended, at, header),
+        Err(refused) => behind::refusal(rules, refused),
     }
-}
-
-// A head with another chained flag.
-pub(crate) fn with_chained(mut header: DssHeader, chained: bool) -> DssHeader
-    ensures { result ≡ with_chained header chained }
-{
-    header.flags.chained = chained;
-    header
 }
 
 // The frame of one segment of so many bytes at a place, and all that it absorbs, look by look.
@@ -256,7 +227,7 @@ pub(crate) fn absorb(
     at: usize,
     head: DssHeader,
     seg_len: usize,
-) -> Measured
+) -> Result<FrameMeasure, Refused>
     requires { (6 ≤ seg_len) × (at + seg_len ≤ length run.now) }
     ensures { result ≡ measured_of run.now at (absorb rules run.now at head (first at seg_len ∷ [])) }
 {
@@ -264,33 +235,25 @@ pub(crate) fn absorb(
     let mut segments = 1;
     let mut end = at + seg_len;
     let mut sofar = payload::started(run, at + DSS_HEADER_LEN, end);
-    loop {
-        let first = header.dss_type;
-        let extended = payload::starts_extended(sofar);
-        match look_behind(rules, run, first, extended, end) {
-            Look::Finished => {
-                return Measured::Frame(FrameMeasure {
-                    header,
-                    payload_len: sofar.len,
-                    segments,
-                    end,
-                });
-            }
-            Look::Refuses(refused) => {
-                return Measured::Refused(refused);
-            }
-            Look::Absorbs {
-                dropped,
-                end: next,
-                chained,
-            } => {
-                sofar = payload::grown(sofar, run, end + DSS_HEADER_LEN + dropped, next);
-                header = with_chained(header, chained);
-                segments += 1;
-                end = next;
-            }
-        }
+    while let Some(absorbed) = look_behind(
+        rules,
+        run,
+        header.dss_type,
+        payload::starts_extended(sofar),
+        end,
+    )? {
+        let from = end + DSS_HEADER_LEN + absorbed.dropped;
+        sofar = payload::grown(sofar, run, from, absorbed.end);
+        header.flags.chained = absorbed.chained;
+        segments += 1;
+        end = absorbed.end;
     }
+    Ok(FrameMeasure {
+        header,
+        payload_len: sofar.len,
+        segments,
+        end,
+    })
 }
 
 // The frame of one segment of so many bytes at a place, and all that it absorbs.
@@ -300,13 +263,13 @@ pub(crate) fn single(
     at: usize,
     head: DssHeader,
     seg_len: usize,
-) -> Measured
+) -> Result<FrameMeasure, Refused>
     requires { (6 ≤ seg_len) × (at + seg_len ≤ length run.now) }
     ensures { result ≡ measured_of run.now at (absorb rules run.now at head (first at seg_len ∷ [])) }
 {
     let end = at + seg_len;
     if glance::stands_apart(run, end) {
-        return Measured::Frame(FrameMeasure {
+        return Ok(FrameMeasure {
             header: head,
             payload_len: seg_len - DSS_HEADER_LEN,
             segments: 1,
@@ -321,79 +284,57 @@ pub(crate) fn measure_whole(
     rules: Rules,
     run: &[u8],
     at: usize,
-    end: usize,
-    segments: usize,
-    payload_len: usize,
-) -> Measured
-    requires { walked_at rules run.now at ≡ Walked.Whole end segments payload_len }
+    walked: Walked,
+) -> Result<FrameMeasure, Refused>
+    requires { walked_at rules run.now at ≡ Ok walked }
     ensures { result ≡ measured_at rules run.now at }
 {
-    match head_at(run, at) {
-        HeadFound::Refused(refused) => {
-            return Measured::Refused(refused);
-        }
-        HeadFound::Head(header) => {
-            let raw = wire::u16_at(run, at);
-            let seg_len = raw as usize;
-            if seg_len < DSS_HEADER_LEN {
-                let why = Refusal::LengthTooShort(raw);
-                return Measured::Refused(Refused { why, place: at });
-            }
-            if raw == DSS_CONTINUED {
-                return Measured::Frame(FrameMeasure {
-                    header,
-                    payload_len,
-                    segments,
-                    end,
-                });
-            }
-            return single(rules, run, at, header, seg_len);
-        }
+    let header = head_at(run, at)?;
+    let raw = wire::u16_at(run, at);
+    let seg_len = usize::from(raw);
+    if seg_len < DSS_HEADER_LEN {
+        return Err(Refusal::LengthTooShort(raw).at(at));
     }
-}
-
-// The frame at a place of a run, under either's rules: refusals 10, 1 or 16, 2, 3, 7.
-pub fn measure(rules: Rules, run: &[u8], at: usize) -> Measured
-    ensures { result ≡ measured_at rules run.now at }
-{
-    if run.len() < at {
-        return Measured::Refused(Refused::out_of_bounds(at, run.len()));
-    }
-    match walk_frame(rules, run, at) {
-        Walked::Short => {
-            let why = Refusal::Incomplete;
-            return Measured::Refused(Refused { why, place: at });
-        }
-        Walked::Dead(place) => {
-            let why = Refusal::DeadContinuation;
-            return Measured::Refused(Refused { why, place });
-        }
-        Walked::Whole {
+    if raw == DSS_CONTINUED {
+        let Walked {
             end,
             segments,
             payload_len,
-        } => {
-            return measure_whole(rules, run, at, end, segments, payload_len);
-        }
+        } = walked;
+        return Ok(FrameMeasure {
+            header,
+            payload_len,
+            segments,
+            end,
+        });
     }
+    single(rules, run, at, header, seg_len)
+}
+
+// The frame at a place of a run, under either's rules: refusals 10, 1 or 16, 2, 3, 7; never 9.
+pub fn measure(rules: Rules, run: &[u8], at: usize) -> Result<FrameMeasure, Refused>
+    ensures { result ≡ measured_at rules run.now at }
+{
+    if run.len() < at {
+        return Err(Refused::out_of_bounds(at, run.len()));
+    }
+    let walked = walk_frame(rules, run, at)?;
+    measure_whole(rules, run, at, walked)
 }
 
 // The extent of the frame at a place of a run, without its head: the same refusals.
-pub fn measure_extent(rules: Rules, run: &[u8], at: usize) -> Extent
+pub fn measure_extent(rules: Rules, run: &[u8], at: usize) -> Result<Extent, Refused>
     ensures { result ≡ extent_of (measured_at rules run.now at) }
 {
-    let len = glance::lone_len(run, at);
-    if 0 < len {
-        return Extent::Frame {
+    if let Some(len) = glance::lone_len(run, at) {
+        return Ok(Extent {
             payload_len: len - DSS_HEADER_LEN,
             end: at + len,
-        };
+        });
     }
-    match measure(rules, run, at) {
-        Measured::Refused(refused) => Extent::Refused(refused),
-        Measured::Frame(measure) => Extent::Frame {
-            payload_len: measure.payload_len,
-            end: measure.end,
-        },
-    }
+    let measure = measure(rules, run, at)?;
+    Ok(Extent {
+        payload_len: measure.payload_len,
+        end: measure.end,
+    })
 }

@@ -21,29 +21,22 @@ pub(crate) fn grown(sofar: PayloadSoFar, run: &[u8], from: usize, end: usize) ->
     requires { (sofar.len ≤ from) × (from ≤ end) × (end ≤ length run.now) }
     ensures { (p : List ℕ) → sofar ≡ payload_so_far p → result ≡ payload_so_far (p ++ part run.now from end) }
 {
-    let len = sofar.len;
     let more = end - from;
-    if len == 0 {
-        let first = part_byte(run, from, end, 0);
-        let second = part_byte(run, from, end, 1);
-        return PayloadSoFar {
+    match sofar.len {
+        0 => PayloadSoFar {
             len: more,
-            first,
-            second,
-        };
-    }
-    if len == 1 {
-        let second = part_byte(run, from, end, 0);
-        return PayloadSoFar {
+            first: part_byte(run, from, end, 0),
+            second: part_byte(run, from, end, 1),
+        },
+        1 => PayloadSoFar {
             len: 1 + more,
-            first: sofar.first,
-            second,
-        };
-    }
-    PayloadSoFar {
-        len: len + more,
-        first: sofar.first,
-        second: sofar.second,
+            second: part_byte(run, from, end, 0),
+            ..sofar
+        },
+        len => PayloadSoFar {
+            len: len + more,
+            ..sofar
+        },
     }
 }
 
@@ -64,8 +57,5 @@ pub(crate) fn started(run: &[u8], from: usize, end: usize) -> PayloadSoFar
 pub(crate) fn starts_extended(sofar: PayloadSoFar) -> bool
     ensures { result ≡ extended_by sofar }
 {
-    if sofar.len < 4 {
-        return false;
-    }
-    wire::u16_of(sofar.first, sofar.second) == 0x8004
+    sofar.len >= 4 && wire::u16_of(sofar.first, sofar.second) == 0x8004
 }

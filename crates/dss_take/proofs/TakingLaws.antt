@@ -1,5 +1,5 @@
 -- The laws of taking a frame that absorbs what follows it, one for each answer of a look.
-use Rattle.std.specs.Prelude.{Result, Ok, Err}
+use Rattle.std.specs.Prelude.{None, Some, Result, Ok, Err}
 use Prim.Native.Nat.{ℕ, zero, suc, ◌+◌, ◌-◌, ◌≤◌, ◌<◌}
 use native.Mathlib.Nat.{add-zero}
 use native.Mathlib.Omega.{arith}
@@ -23,8 +23,8 @@ use Rattle.dss_frame.specs.Reading.{Look, finished, absorbs, refuses, refusal, l
 use Rattle.dss_laws.proofs.Bounds.{OfFrame, is_frame, is_refused}
 use Rattle.dss_laws.proofs.Ends.{end_snoc, payload_append, payload_one}
 use Rattle.dss_laws.proofs.Looking.{absorb_absorbs}
+use Rattle.dss_measure.specs.declared.Absorbed.{Absorbed}
 use Rattle.dss_measure.specs.declared.FrameMeasure.{FrameMeasure}
-use Rattle.dss_measure.specs.declared.Look.TheVariants.{Finished, Absorbs, Refuses}
 use Rattle.dss_measure.specs.inner.Walking.{looked_of, payload_so_far}
 use Rattle.dss_measure.specs.Measure.{measure_of, measured_of}
 use Rattle.dss_measure.proofs.Absorbing.{behind_at, Absorbing, absorbing_finished, absorbing_refused, absorbing_there}
@@ -63,14 +63,14 @@ unfolding look
 look_here rules s t x q = pick_by (Here q) (ltb (length s - q) 6) _ _ (λ _. tt) (λ _. here_at rules s t x q (head_at s q))
 
 -- so the code's answer says which segment it is
-absorbs_is : (q d n : ℕ) (c : Bool) (l : Look) → Here q l → looked_of l ≡ Absorbs d n c → l ≡ absorbs (behind_at q d n) c
-absorbs_is q d n c finished h k = let z : ◌≡◌ {A = ℕ} 0 1 = cc in absurd (omega arith)
-absorbs_is q d n c (absorbs g b) h k =
-    let x : g.dropped ≡ d = cc in
-    let y : g.end ≡ n = cc in
-    let z : b ≡ c = cc in
+absorbs_is : (q : ℕ) (a : Absorbed) (l : Look) → Here q l → looked_of l ≡ Ok (Some a) → l ≡ absorbs (behind_at q a.dropped a.end) a.chained
+absorbs_is q a finished h k = let z : ◌≡◌ {A = ℕ} 0 1 = cc in absurd (omega arith)
+absorbs_is q a (absorbs g b) h k =
+    let x : g.dropped ≡ a.dropped = cc in
+    let y : g.end ≡ a.end = cc in
+    let z : b ≡ a.chained = cc in
     λ i. absorbs (record { at = h.0 i; framing = h.1 i; dropped = x i; end = y i }) (z i)
-absorbs_is q d n c (refuses r) h k = let z : ◌≡◌ {A = ℕ} 0 1 = cc in absurd (omega arith)
+absorbs_is q a (refuses r) h k = let z : ◌≡◌ {A = ℕ} 0 1 = cc in absurd (omega arith)
 
 -- ---- what absorbing keeps
 
@@ -171,7 +171,7 @@ module _ {rules : Rules} {s : List ℕ} {p : ℕ} {room : List ℕ} (v : FitsRoo
     looked = ap (λ (u : DssType). looked_of (look rules s u x q)) w.typed
 
     -- "finished": the payload so far is all
-    pub taking_finished : looked_of (look rules s t x q) ≡ Finished → fill ≡ length (payload_at rules s p)
+    pub taking_finished : looked_of (look rules s t x q) ≡ Ok None → fill ≡ length (payload_at rules s p)
     taking_finished l =
         let n : FrameMeasure = record { header = w.head; payload_len = length (payload_of s w.segments); segments = length w.segments; end = q } in
         let m : Ok (measure_of s p v.read) ≡ Ok n = sym (ap (measured_of s p) v.is) ∙ absorbing_finished rules s p (read_at rules s p) _ _ _ _ x measuring extended (looked ∙ l) in
@@ -179,23 +179,26 @@ module _ {rules : Rules} {s : List ℕ} {p : ℕ} {room : List ℕ} (v : FitsRoo
         w.size ∙ sym (ap length (payload_is v) ∙ ap (λ (y : FrameMeasure). y.payload_len) z)
 
     -- "refused": it isn't
-    pub taking_refused : (r : Refused) → looked_of (look rules s t x q) ≡ Refuses r → ⊥
+    pub taking_refused : (r : Refused) → looked_of (look rules s t x q) ≡ Err r → ⊥
     taking_refused r l =
         let m : Ok (measure_of s p v.read) ≡ Err r = sym (ap (measured_of s p) v.is) ∙ absorbing_refused rules s p (read_at rules s p) _ _ _ _ x measuring extended r (looked ∙ l) in
         let z : ◌≡◌ {A = ℕ} 0 1 = cc in omega arith
 
     -- "absorbs": what it adds comes next, and then what is read on from there
-    pub taking_absorbs : {d n : ℕ} {c : Bool} → looked_of (look rules s t x q) ≡ Absorbs d n c
-        → Next s (payload_at rules s p) fill (q + 6 + d) n × TakingFrame rules s p t n (fill + (n - (q + 6 + d)))
-    taking_absorbs {d} {n} {c} l =
+    pub taking_absorbs : {b : Absorbed} → looked_of (look rules s t x q) ≡ Ok (Some b)
+        → Next s (payload_at rules s p) fill (q + 6 + b.dropped) b.end × TakingFrame rules s p t b.end (fill + (b.end - (q + 6 + b.dropped)))
+    taking_absorbs {b} l =
+        let d : ℕ = b.dropped in
+        let n : ℕ = b.end in
+        let c : Bool = b.chained in
         let gs : List Segment = w.segments in
         let g : Segment = behind_at q d n in
         let y : List ℕ = part s (q + 6 + d) n in
-        let a : (q + 6 + d ≤ n) × (n ≤ length s) = absorbing_there rules s p (read_at rules s p) _ _ _ _ x measuring extended d n c (looked ∙ l) in
-        let k : look rules s w.head.dss_type x q ≡ absorbs g c = absorbs_is q d n c _ (look_here rules s w.head.dss_type x q) (looked ∙ l) in
+        let a : (q + 6 + d ≤ n) × (n ≤ length s) = absorbing_there rules s p (read_at rules s p) _ _ _ _ x measuring extended b (looked ∙ l) in
+        let k : look rules s w.head.dss_type x q ≡ absorbs g c = absorbs_is q b _ (look_here rules s w.head.dss_type x q) (looked ∙ l) in
         let same : read_at rules s p ≡ absorb rules s p (with_chained w.head c) (gs ++ (g ∷ [])) =
         w.same
-        ∙ absorb_absorbs rules s p w.head gs g c (ap₂ (λ (b : Bool) (j : ℕ). look rules s w.head.dss_type b j) (sym extended) (sym w.ends) ∙ k) in
+        ∙ absorb_absorbs rules s p w.head gs g c (ap₂ (λ (y : Bool) (j : ℕ). look rules s w.head.dss_type y j) (sym extended) (sym w.ends) ∙ k) in
         let more : payload_of s (gs ++ (g ∷ [])) ≡ payload_of s gs ++ y = payload_append s gs (g ∷ []) ∙ ap (λ (j : List ℕ). payload_of s gs ++ j) (payload_one s g) in
         let on = payload_on (with_chained w.head c) (gs ++ (g ∷ [])) same in (
           record {

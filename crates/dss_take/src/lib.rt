@@ -15,7 +15,7 @@ use dss_head::{
     Chunk, DSS_CONTINUATION_HEADER_LEN, DSS_CONTINUATION_PAYLOAD_LEN, DSS_CONTINUED,
     DSS_FIRST_PAYLOAD_LEN, DSS_FULL_SEGMENT_LEN, DSS_HEADER_LEN, DssType,
 };
-use dss_measure::{Look, Measured};
+use dss_measure::FrameMeasure;
 
 // A part of the run, laid into the room from a place on.
 pub(crate) fn copy_part(run: &[u8], from: usize, end: usize, room: &mut [u8], at: usize)
@@ -36,11 +36,9 @@ pub(crate) fn copy_chunks(rules: Rules, run: &[u8], at: usize, room: &mut [u8])
     loop {
         let raw = wire::u16_at(run, from);
         match dss_measure::chunk_under(rules, raw) {
-            Chunk::Dead => {
-                return;
-            }
+            Chunk::Dead => return,
             Chunk::Last => {
-                let end = from + raw as usize;
+                let end = from + usize::from(raw);
                 copy_part(run, from + DSS_CONTINUATION_HEADER_LEN, end, room, fill);
                 return;
             }
@@ -59,10 +57,7 @@ pub(crate) fn starts_extended(room: &[u8], fill: usize) -> bool
     requires { fill ≤ length room.now }
     ensures { result ≡ starts_extended (take fill room.now) }
 {
-    if fill < 4 {
-        return false;
-    }
-    wire::u16_at(room, 0) == 0x8004
+    fill >= 4 && wire::u16_at(room, 0) == 0x8004
 }
 
 // The payload of any other frame, whose head has this type and whose payload this length: its first segment's, and what each
@@ -78,30 +73,19 @@ pub(crate) fn copy_absorbed(
     requires { FitsRoom rules run.now at room.old × Typed rules run.now at first × (be16 run.now at ≡ 0xFFFF → ⊥) × (need ≡ length (payload_at rules run.now at)) }
     ensures { room.new ≡ splice room.old 0 (payload_at rules run.now at) }
 {
-    let seg_len = wire::u16_at(run, at) as usize;
+    let seg_len = usize::from(wire::u16_at(run, at));
     let mut end = at + seg_len;
     let mut fill = seg_len - DSS_HEADER_LEN;
     copy_part(run, at + DSS_HEADER_LEN, end, room, 0);
     while fill < need {
         let extended = starts_extended(room, fill);
-        match dss_measure::look_behind(rules, run, first, extended, end) {
-            Look::Finished => {
-                return;
-            }
-            Look::Refuses(_) => {
-                return;
-            }
-            Look::Absorbs {
-                dropped,
-                end: next,
-                chained: _,
-            } => {
-                let from = end + DSS_HEADER_LEN + dropped;
-                copy_part(run, from, next, room, fill);
-                fill += next - from;
-                end = next;
-            }
-        }
+        let Ok(Some(absorbed)) = dss_measure::look_behind(rules, run, first, extended, end) else {
+            return;
+        };
+        let from = end + DSS_HEADER_LEN + absorbed.dropped;
+        copy_part(run, from, absorbed.end, room, fill);
+        fill += absorbed.end - from;
+        end = absorbed.end;
     }
 }
 
@@ -119,14 +103,14 @@ pub(crate) fn copy_frame(
 {
     if wire::u16_at(run, at) == DSS_CONTINUED {
         copy_chunks(rules, run, at, room);
-        return;
+    } else {
+        copy_absorbed(rules, run, at, first, need, room);
     }
-    copy_absorbed(rules, run, at, first, need, room);
 }
 
 // The frame at a place of a run, under either's rules: its head, its payload's length, its segments, and the position after it. All
 // refusals but 9: 10, 1 or 16, 2, 3, 7. Touches nothing.
-pub fn measure(rules: Rules, run: &[u8], at: usize) -> Measured
+pub fn measure(rules: Rules, run: &[u8], at: usize) -> Result<FrameMeasure, Refused>
     ensures { result ≡ measured_at rules run.now at }
 {
     dss_measure::measure(rules, run, at)
@@ -134,20 +118,19 @@ pub fn measure(rules: Rules, run: &[u8], at: usize) -> Measured
 
 // The same frame, its payload laid at the room's start: all refusals, 9 last. It measures the run itself, whatever its caller has
 // measured before; and not through `measure` above, by which the compiled code was a fiftieth slower.
-pub fn take(rules: Rules, run: &[u8], at: usize, room: &mut [u8]) -> Measured
+pub fn take(
+    rules: Rules,
+    run: &[u8],
+    at: usize,
+    room: &mut [u8],
+) -> Result<FrameMeasure, Refused>
     ensures { Takes rules run.now at room.old result room.new }
 {
-    match dss_measure::measure(rules, run, at) {
-        Measured::Refused(refused) => Measured::Refused(refused),
-        Measured::Frame(frame) => {
-            let need = frame.payload_len;
-            if room.len() < need {
-                return Measured::Refused(Refused::no_room(need, 0, at));
-            }
-            let header = frame.header;
-            let first = header.dss_type;
-            copy_frame(rules, run, at, first, need, room);
-            Measured::Frame(frame)
-        }
+    let frame = dss_measure::measure(rules, run, at)?;
+    let need = frame.payload_len;
+    if room.len() < need {
+        return Err(Refused::no_room(need, 0, at));
     }
+    copy_frame(rules, run, at, frame.header.dss_type, need, room);
+    Ok(frame)
 }

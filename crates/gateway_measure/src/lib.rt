@@ -9,31 +9,35 @@ ghost use Rattle.dss_measure.specs.Measure.{measured_at};
 ghost use Rattle.gateway_words.specs.AnswerWords.{Answered};
 ghost use Rattle.gateway_measure.specs.MeasureWords.{rules_of, measured_words};
 
+use answer::Refused;
 use dss_frame::Rules;
-use dss_measure::Measured;
+use dss_measure::FrameMeasure;
 use gateway_words::put_refusal;
 
 // Which rules hold: 0 is the reader's, any other number salvage's.
 pub fn rules_of(number: u8) -> Rules
     ensures { result ≡ rules_of number }
 {
-    if number == 0 {
-        return Rules::Reader;
+    match number {
+        0 => Rules::Reader,
+        _ => Rules::Salvage,
     }
-    Rules::Salvage
 }
 
 // A frame that was measured at a place, or taken from there, and the position behind it; or why there is none.
-pub fn put_measured(words: &mut [u64], at: usize, measured: Measured) -> u8
+pub fn put_measured(
+    words: &mut [u64],
+    at: usize,
+    measured: Result<FrameMeasure, Refused>,
+) -> u8
     ensures { Answered (measured_words at measured) words.old result words.new }
 {
     match measured {
-        Measured::Frame(measure) => {
-            let frame = measure.record(at, 0);
-            gateway_row::put_frame(words, measure.end, at, frame);
+        Ok(measure) => {
+            gateway_row::put_frame(words, measure.end, at, measure.record(at, 0));
             0
         }
-        Measured::Refused(refused) => put_refusal(words, refused),
+        Err(refused) => put_refusal(words, refused),
     }
 }
 

@@ -11,12 +11,12 @@ returns-then-left-lt-DSS_HEADER_LEN c =
     let a = c.args in
     ap looked_of (sym (look_nothing a.rules a.run.now a.at (omega arith) a.first a.extended))
 
-pub returns-in-Head : goal.returns-in-Head
-returns-in-Head c =
+pub returns-in-Ok : goal.returns-in-Ok
+returns-in-Ok c =
     let a = c.args in
-    c.look_head.ensures ∙ ap looked_of (sym (look_head a.rules a.run.now a.first a.extended a.at _ (omega arith) c.in-Head.ensures))
+    c.look_head.ensures ∙ ap looked_of (sym (look_head a.rules a.run.now a.first a.extended a.at _ (omega arith) c.in-Ok.ensures))
 
-pub returns-in-Refused : goal.returns-in-Refused
-returns-in-Refused c =
+pub returns-in-Err : goal.returns-in-Err
+returns-in-Err c =
     let a = c.args in
-    c.refusal.ensures ∙ ap looked_of (sym (look_head a.rules a.run.now a.first a.extended a.at _ (omega arith) c.in-Refused.ensures))
+    c.refusal.ensures ∙ ap looked_of (sym (look_head a.rules a.run.now a.first a.extended a.at _ (omega arith) c.in-Err.ensures))

@@ -1,7 +1,8 @@
--- `dss_measure::measure` meets its contract: 10 and 1 by their laws, and a whole frame by what `measure_whole` ensures.
+-- `dss_measure::measure` meets its contract: 10, 1 and 16 by their laws, and a whole frame by what `measure_whole` ensures.
+use Rattle.std.proofs.Common.{rules}
 use Rattle.std.specs.Prelude.{Err}
-use mathlib.Core.Path.{sym, ap, ◌∙◌}
-use Rattle.dss_measure.proofs.Readings.{measured_beyond, measured_short, measured_dead}
+use mathlib.Core.Path.{◌≡◌, sym, ap, ◌∙◌}
+use Rattle.dss_measure.proofs.Readings.{measured_beyond, measured_not_whole}
 use Rattle.dss_measure.proofs.measure.Goals as goal
 
 pub returns-then-run-at : goal.returns-then-run-at
@@ -9,12 +10,8 @@ returns-then-run-at c =
     let a = c.args in
     ap Err c.out_of_bounds.ensures ∙ sym (measured_beyond a.rules a.run.now a.at c.if-run-at.true)
 
-pub returns-in-Short : goal.returns-in-Short
-returns-in-Short c =
+pub returns-in_err-walked : goal.returns-in_err-walked
+returns-in_err-walked c =
     let a = c.args in
-    sym (measured_short a.rules a.run.now a.at c.if-run-at.false (sym c.in-Short.ensures))
-
-pub returns-in-Dead : goal.returns-in-Dead
-returns-in-Dead c =
-    let a = c.args in
-    sym (measured_dead a.rules a.run.now a.at _ c.if-run-at.false (sym c.in-Dead.ensures))
+    let r : c.from_residual.result ≡ Err c.in_err-walked.field-0.0 = search rules in
+    r ∙ sym (measured_not_whole a.rules a.run.now a.at _ c.if-run-at.false (sym c.in_err-walked.ensures))

@@ -4,7 +4,7 @@ use Rattle.dss_measure.specs.Measure.{extent_of}
 use Rattle.dss_measure.proofs.GlanceLaws.{lone_measured}
 use Rattle.dss_measure.proofs.measure_extent.Goals as goal
 
-pub returns-then-len-gt0 : goal.returns-then-len-gt0
-returns-then-len-gt0 c =
+pub returns-in-Some : goal.returns-in-Some
+returns-in-Some c =
     let a = c.args in
-    ap extent_of (sym (lone_measured a.rules a.run.now a.at c.lone_len-len.result (c.lone_len-len.ensures c.if-len-gt0.true)))
+    ap extent_of (sym (lone_measured a.rules a.run.now a.at c.in-Some.len c.in-Some.ensures))

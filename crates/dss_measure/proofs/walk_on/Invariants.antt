@@ -8,8 +8,8 @@ use Rattle.dss_measure.proofs.walk_on.Given as goal
 
 abbrev pub invariant-loop-rules : goal.invariant-loop-rules
 invariant-loop-rules l =
-    (l.at ≤ length l.run) × (l.segments ≤ l.at) × (l.payload_len ≤ l.at)
-    × (walked_on l.rules l.run l.from l.before l.payload_before ≡ walked_on l.rules l.run l.at l.segments l.payload_len)
+    (l.end ≤ length l.run) × (l.segments ≤ l.end) × (l.payload_len ≤ l.end)
+    × (walked_on l.rules l.run l.at l.fn.before.end l.fn.before.segments l.fn.before.payload_len ≡ walked_on l.rules l.run l.at l.end l.segments l.payload_len)
 
 abbrev pub decreases-loop-rules : goal.decreases-loop-rules
-decreases-loop-rules l = length l.run - l.at
+decreases-loop-rules l = length l.run - l.end
