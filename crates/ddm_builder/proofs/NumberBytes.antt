@@ -6,6 +6,7 @@ use mathlib.Core.Path.{◌≡◌, sym, ◌∙◌, ap, ap₂}
 use mathlib.Core.List.{List, [], ◌∷◌, ◌++◌, append_assoc}
 use lib.ListN.{length, get_or, set, take, drop}
 use lib.Seq.{take-suc, set_at, length-take-le}
+use Rattle.std.specs.Int.{w32, to_be_bytes}
 use Rattle.wire.specs.Bytes.{last, splice, laid}
 use Rattle.wire.proofs.Widths.{length_last, last_first}
 use Rattle.wire.proofs.Splicing.{splice_none, splice_length, laid_fits}
@@ -62,3 +63,11 @@ laying_end r width n room left i fits l h =
     let z : i ≡ 0 = omega arith in
     let y : width - i ≡ width = omega arith in
     l.holds ∙ ap₂ (λ (a k : ℕ). splice r a (last k n)) z y ∙ sym (laid_fits r 0 (last width n) (omega (arith, length_last width n)))
+
+-- std's bytes of a number of four
+pub four_last : (n : ℕ) → to_be_bytes w32 n ≡ last 4 n
+unfolding last
+four_last n =
+    let a : n / 65536 ≡ n / 256 / 256 = omega arith in
+    let b : n / 16777216 ≡ n / 256 / 256 / 256 = omega arith in
+    ap₂ (λ (x y : ℕ). x % 256 ∷ y % 256 ∷ n / 256 % 256 ∷ n % 256 ∷ []) b a

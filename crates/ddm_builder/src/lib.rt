@@ -9,22 +9,15 @@ ghost use Rattle.ddm_builder.specs.Builder.{fresh_builder, Adds, parameter16, pa
 ghost use Rattle.ddm_builder.specs.inner.FormsLaid.{raw_length, LaysAt};
 ghost use Rattle.ddm_builder.specs.Headers.{header_of};
 
-use answer::{Laid, Refused, RoomFor};
+use answer::Refused;
 
 const DDM_HEADER_LEN: usize = 4;
 
 // A builder's state: the object's code point, and how much of the lent room is filled with its data.
-#[derive(Drop)]
+#[derive(Clone, Copy)]
 pub struct DdmBuilder {
     pub code_point: u16,
     pub fill: usize,
-}
-
-// What adding to a builder comes to: its state after, or the refusal, which leaves it as it was.
-#[derive(Drop)]
-pub enum Added {
-    Done(DdmBuilder),
-    Refused(Refused),
 }
 
 // How many length bytes so much data takes.
@@ -54,11 +47,7 @@ pub fn serialized_header_len(n: usize) -> usize
 pub fn built_size(n: usize) -> usize
     ensures { result ≡ capped (built_size n) }
 {
-    let head = serialized_header_len(n);
-    if 0xFFFF_FFFF_FFFF_FFFF - head < n {
-        return 0xFFFF_FFFF_FFFF_FFFF;
-    }
-    head + n
+    serialized_header_len(n).saturating_add(n)
 }
 
 // Lays a number's last bytes down at the room's start, the last one first, where it has room for them.
@@ -69,11 +58,9 @@ pub(crate) fn lay_number(room: &mut [u8], width: usize, n: usize)
         return;
     }
     let mut left = n;
-    let mut i = width;
-    while 0 < i {
-        i -= 1;
+    for i in (0..width).rev() {
         room[i] = (left % 256) as u8;
-        left = left / 256;
+        left /= 256;
     }
 }
 
@@ -83,9 +70,10 @@ pub(crate) fn raw_length(width: usize, n: usize) -> u16
     ensures { result ≡ raw_length width n }
 {
     if width == 0 {
-        return (n + DDM_HEADER_LEN) as u16;
+        (n + DDM_HEADER_LEN) as u16
+    } else {
+        (0x8004 + width) as u16
     }
-    (0x8004 + width) as u16
 }
 
 // Lays the header of an object with so much data down at the room's start, length bytes and all, where it has room for it.
@@ -111,19 +99,24 @@ pub(crate) fn lay_object(cp: u16, data: &[u8], room: &mut [u8])
         return;
     }
     lay_header(cp, n, room);
-    ddm_length::lay(data, &mut room[behind..]);
+    wire::copy(data, &mut room[behind..]);
 }
 
 // Lays an object down at the room's start: 9 where it is too short, at the place that the call gives a refusal.
-pub(crate) fn lay_object_or_refuse(place: usize, cp: u16, data: &[u8], room: &mut [u8]) -> Laid
+pub(crate) fn lay_object_or_refuse(
+    place: usize,
+    cp: u16,
+    data: &[u8],
+    room: &mut [u8],
+) -> Result<usize, Refused>
     ensures { LaysAt place (built cp «data».now) room.old result room.new }
 {
     let need = serialized_header_len(data.len()) + data.len();
     if room.len() < need {
-        return Laid::Refused(Refused::no_room(need, 0, place));
+        return Err(Refused::no_room(need, 0, place));
     }
     lay_object(cp, data, room);
-    Laid::Bytes(need)
+    Ok(need)
 }
 
 impl DdmBuilder {
@@ -138,69 +131,55 @@ impl DdmBuilder {
     }
 
     // Adds a parameter with a code point and data, from the fill mark onward: 10, 9.
-    pub fn add_code_point(self, cp: u16, data: &[u8], room: &mut [u8]) -> Added
+    pub fn add_code_point(self, cp: u16, data: &[u8], room: &mut [u8]) -> Result<Self, Refused>
         ensures { Adds self (built cp «data».now) room.old result room.new }
     {
         let fill = self.fill;
         let need = serialized_header_len(data.len()) + data.len();
-        match answer::room_for(fill, room.len(), need) {
-            RoomFor::Enough => {
-                lay_object(cp, data, &mut room[fill..]);
-                return Added::Done(Self {
-                    code_point: self.code_point,
-                    fill: fill + need,
-                });
-            }
-            RoomFor::Refused(r) => {
-                return Added::Refused(r);
-            }
-        }
+        answer::room_for(fill, room.len(), need)?;
+        lay_object(cp, data, &mut room[fill..]);
+        Ok(Self {
+            fill: fill + need,
+            ..self
+        })
     }
 
     // Adds a parameter with a number of two bytes.
-    pub fn add_u16(self, cp: u16, val: u16, room: &mut [u8]) -> Added
+    pub fn add_u16(self, cp: u16, val: u16, room: &mut [u8]) -> Result<Self, Refused>
         ensures { Adds self (parameter16 cp val) room.old result room.new }
     {
-        let mut b = [0u8; 2];
-        wire::put_u16(&mut b, val);
-        self.add_code_point(cp, &b, room)
+        let two_bytes = val.to_be_bytes();
+        self.add_code_point(cp, &two_bytes, room)
     }
 
     // Adds a parameter with a number of four bytes.
-    pub fn add_u32(self, cp: u16, val: u32, room: &mut [u8]) -> Added
+    pub fn add_u32(self, cp: u16, val: u32, room: &mut [u8]) -> Result<Self, Refused>
         ensures { Adds self (parameter32 cp val) room.old result room.new }
     {
-        let mut b = [0u8; 4];
-        lay_number(&mut b, 4, val as usize);
-        self.add_code_point(cp, &b, room)
+        let four_bytes = val.to_be_bytes();
+        self.add_code_point(cp, &four_bytes, room)
     }
 
     // Adds bytes as they are.
-    pub fn add_raw(self, data: &[u8], room: &mut [u8]) -> Added
+    pub fn add_raw(self, data: &[u8], room: &mut [u8]) -> Result<Self, Refused>
         ensures { Adds self «data».now room.old result room.new }
     {
         let fill = self.fill;
-        match answer::room_for(fill, room.len(), data.len()) {
-            RoomFor::Enough => {
-                ddm_length::lay(data, &mut room[fill..]);
-                return Added::Done(Self {
-                    code_point: self.code_point,
-                    fill: fill + data.len(),
-                });
-            }
-            RoomFor::Refused(r) => {
-                return Added::Refused(r);
-            }
-        }
+        answer::room_for(fill, room.len(), data.len())?;
+        wire::copy(data, &mut room[fill..]);
+        Ok(Self {
+            fill: fill + data.len(),
+            ..self
+        })
     }
 
     // Lays the object down at a room's start; its data are the filled part of `content`: 10, 9.
-    pub fn build(self, content: &[u8], room: &mut [u8]) -> Laid
+    pub fn build(self, content: &[u8], room: &mut [u8]) -> Result<usize, Refused>
         ensures { Builds self content.now room.old result room.new }
     {
         let fill = self.fill;
         if content.len() < fill {
-            return Laid::Refused(Refused::out_of_bounds(fill, content.len()));
+            return Err(Refused::out_of_bounds(fill, content.len()));
         }
         lay_object_or_refuse(fill, self.code_point, &content[..fill], room)
     }
@@ -214,23 +193,21 @@ impl DdmBuilder {
 }
 
 // Lays a parameter down at the room's start.
-pub fn build_param(code_point: u16, data: &[u8], room: &mut [u8]) -> Laid
+pub fn build_param(code_point: u16, data: &[u8], room: &mut [u8]) -> Result<usize, Refused>
     ensures { Lays (built code_point «data».now) room.old result room.new }
 {
     lay_object_or_refuse(0, code_point, data, room)
 }
 
 // Lays a parameter with a number of two bytes down at the room's start.
-pub fn build_param_u16(code_point: u16, value: u16, room: &mut [u8]) -> Laid
+pub fn build_param_u16(code_point: u16, value: u16, room: &mut [u8]) -> Result<usize, Refused>
     ensures { Lays (parameter16 code_point value) room.old result room.new }
 {
-    let mut b = [0u8; 2];
-    wire::put_u16(&mut b, value);
-    build_param(code_point, &b, room)
+    build_param(code_point, &value.to_be_bytes(), room)
 }
 
 // Lays an object with this payload down at the room's start.
-pub fn build_ddm_object(code_point: u16, payload: &[u8], room: &mut [u8]) -> Laid
+pub fn build_ddm_object(code_point: u16, payload: &[u8], room: &mut [u8]) -> Result<usize, Refused>
     ensures { Lays (built code_point payload.now) room.old result room.new }
 {
     lay_object_or_refuse(0, code_point, payload, room)

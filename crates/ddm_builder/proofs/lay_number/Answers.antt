@@ -5,7 +5,7 @@ use mathlib.Core.Path.{sym}
 use Rattle.wire.specs.Bytes.{last}
 use Rattle.wire.proofs.Widths.{length_last}
 use Rattle.wire.proofs.Splicing.{laid_kept}
-use Rattle.ddm_builder.proofs.NumberBytes.{laying_start, laying_length, laying_step, laying_end}
+use Rattle.ddm_builder.proofs.NumberBytes.{laying_start, laying_step, laying_end}
 use Rattle.ddm_builder.proofs.lay_number.Goals as goal
 
 pub returns-then-room-width : goal.returns-then-room-width
@@ -16,23 +16,8 @@ returns-then-room-width c =
 pub loop-i-init : goal.loop-i-init
 loop-i-init c = laying_start _ _ _
 
-pub overflow_sub-i : goal.overflow_sub-i
-overflow_sub-i c = omega arith
-
-pub overflow_cast-room : goal.overflow_cast-room
-overflow_cast-room c = omega arith
-
-pub bounds-room-i : goal.bounds-room-i
-bounds-room-i c = omega (arith, c.loop-i.invariant.within, laying_length _ _ _ c.if-room-width.false _ _ _ c.loop-i.invariant)
-
-pub loop-i-smaller : goal.loop-i-smaller
-loop-i-smaller c = omega arith
-
 pub loop-i-preserved : goal.loop-i-preserved
 loop-i-preserved c = laying_step _ _ _ c.if-room-width.false _ _ _ c.loop-i.invariant c.loop-i-test.true
-
-pub shape_of-room : goal.shape_of-room
-shape_of-room c = laying_length _ _ _ c.if-room-width.false _ _ _ c.loop-i.invariant
 
 pub returns : goal.returns
 returns c = laying_end _ _ _ _ _ _ c.if-room-width.false c.loop-i.invariant c.loop-i-test.false

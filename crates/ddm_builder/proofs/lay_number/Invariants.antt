@@ -5,6 +5,3 @@ use Rattle.ddm_builder.proofs.lay_number.Given as goal
 
 abbrev pub invariant-loop-i : goal.invariant-loop-i
 invariant-loop-i l = LayingNumber l.initial.room l.width l.n l.room l.left l.i
-
-abbrev pub decreases-loop-i : goal.decreases-loop-i
-decreases-loop-i l = l.i

@@ -21,7 +21,7 @@ returns c =
     let h = c.serialized_header_len-behind in
     let s = c.args in
     let d = s.«data».now in
-    lent_next s.room.now _ (header_of s.cp (length d)) h.result _ d c.lay_header.ensures (length_header s.cp (length d) ∙ sym h.ensures) (omega (arith, c.if-room-behind.false)) c.lay.ensures
+    lent_next s.room.now _ (header_of s.cp (length d)) h.result _ d c.lay_header.ensures (length_header s.cp (length d) ∙ sym h.ensures) (omega (arith, c.if-room-behind.false)) c.copy.ensures
     ∙ ap (laid s.room.now 0) (sym (built_header s.cp d))
 
 pub overflow_add-behind : goal.overflow_add-behind
