@@ -1,3 +1,2 @@
-pub mod BuilderAnswers
 pub mod Cases
 pub mod Unique

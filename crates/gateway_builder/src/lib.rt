@@ -8,16 +8,27 @@ ghost use Rattle.ddm_builder.specs.Builder.{parameter16, parameter32, builder_to
 ghost use Rattle.gateway_words.specs.AnswerWords.{Answered, LaysInWords};
 ghost use Rattle.gateway_builder.specs.BuilderWords.{builder_of, adding, added_words, Appends, Makes};
 
-use ddm_builder::{Added, DdmBuilder};
+use answer::Refused;
+use ddm_builder::DdmBuilder;
 use gateway_words::{put_done, put_laid, put_refusal};
 
+// A builder that is only added to, or measured: no matter which code point.
+fn adding(fill: usize) -> DdmBuilder
+    ensures { result ≡ adding fill }
+{
+    DdmBuilder {
+        code_point: 0,
+        fill,
+    }
+}
+
 // The builder after an addition, as its fill mark, or why nothing was added.
-pub(crate) fn put_added(words: &mut [u64], added: Added) -> u8
+pub(crate) fn put_added(words: &mut [u64], added: Result<DdmBuilder, Refused>) -> u8
     ensures { Answered (added_words added) words.old result words.new }
 {
     match added {
-        Added::Done(builder) => put_done(words, builder.fill as u64, 0, 0, 0),
-        Added::Refused(refused) => put_refusal(words, refused),
+        Ok(builder) => put_done(words, builder.fill as u64, 0, 0, 0),
+        Err(refused) => put_refusal(words, refused),
     }
 }
 
@@ -32,11 +43,7 @@ pub fn lattrugone_builder_add_code_point(
 ) -> u8
     ensures { Appends (adding fill) (built cp «data».now) room.old words.old result room.new words.new }
 {
-    let builder = DdmBuilder {
-        code_point: 0,
-        fill,
-    };
-    let added = builder.add_code_point(cp, data, room);
+    let added = adding(fill).add_code_point(cp, data, room);
     put_added(words, added)
 }
 
@@ -49,11 +56,7 @@ pub fn lattrugone_builder_add_u16(
 ) -> u8
     ensures { Appends (adding fill) (parameter16 cp val) room.old words.old result room.new words.new }
 {
-    let builder = DdmBuilder {
-        code_point: 0,
-        fill,
-    };
-    let added = builder.add_u16(cp, val, room);
+    let added = adding(fill).add_u16(cp, val, room);
     put_added(words, added)
 }
 
@@ -66,11 +69,7 @@ pub fn lattrugone_builder_add_u32(
 ) -> u8
     ensures { Appends (adding fill) (parameter32 cp val) room.old words.old result room.new words.new }
 {
-    let builder = DdmBuilder {
-        code_point: 0,
-        fill,
-    };
-    let added = builder.add_u32(cp, val, room);
+    let added = adding(fill).add_u32(cp, val, room);
     put_added(words, added)
 }
 
@@ -82,11 +81,7 @@ pub fn lattrugone_builder_add_raw(
 ) -> u8
     ensures { Appends (adding fill) «data».now room.old words.old result room.new words.new }
 {
-    let builder = DdmBuilder {
-        code_point: 0,
-        fill,
-    };
-    let added = builder.add_raw(data, room);
+    let added = adding(fill).add_raw(data, room);
     put_added(words, added)
 }
 
@@ -111,11 +106,7 @@ pub fn lattrugone_builder_build(
 pub fn lattrugone_builder_total_length(fill: usize) -> usize
     ensures { result ≡ builder_total (adding fill) }
 {
-    let builder = DdmBuilder {
-        code_point: 0,
-        fill,
-    };
-    builder.total_length()
+    adding(fill).total_length()
 }
 
 // ---- a parameter or an object at the room's first byte. The result: how many bytes were laid down.

@@ -1,6 +1,0 @@
--- `gateway_builder::lattrugone_builder_add_raw` meets its contract: what was added, and the words that say so.
-use Rattle.gateway_builder.proofs.BuilderAnswers.{appends}
-use Rattle.gateway_builder.proofs.lattrugone_builder_add_raw.Goals as goal
-
-pub returns : goal.returns
-returns c = appends c.add_raw-added.ensures c.put_added.ensures
