@@ -3,34 +3,26 @@
 
 ghost use Rattle.std.specs.Prelude.{◌≡◌};
 ghost use Rattle.wire.specs.Bytes.{pick};
-ghost use Rattle.text.specs.inner.Puts.{Puts};
+ghost use Rattle.text.specs.inner.PutsText.{PutsText};
 ghost use Rattle.lines.specs.Lines.{type_text, flags_text, frame_text, refused_text, end_text};
 
 use answer::Refused;
 use dss_head::{DssFlags, DssType};
 use dss_measure::FrameMeasure;
+use text::Text;
 
 // A type's name.
-pub fn put_type(room: &mut [u8], at: usize, dss_type: DssType) -> usize
-    ensures { Puts (type_text dss_type) room.old at result room.new }
+pub fn put_type(text: &mut Text, dss_type: DssType)
+    ensures { PutsText (type_text dss_type) text.old text.new }
 {
-    match dss_type {
-        DssType::Request => {
-            return text::put_text(room, at, b"request");
-        }
-        DssType::Reply => {
-            return text::put_text(room, at, b"reply");
-        }
-        DssType::Object => {
-            return text::put_text(room, at, b"object");
-        }
-        DssType::Communication => {
-            return text::put_text(room, at, b"communication");
-        }
-        DssType::NoReply => {
-            return text::put_text(room, at, b"noreply");
-        }
-    }
+    let name: &[u8] = match dss_type {
+        DssType::Request => b"request",
+        DssType::Reply => b"reply",
+        DssType::Object => b"object",
+        DssType::Communication => b"communication",
+        DssType::NoReply => b"noreply",
+    };
+    text.put_text(name);
 }
 
 // A flag's letter where it is set.
@@ -41,48 +33,46 @@ pub(crate) fn letter(set: bool, letter: u8) -> u8
 }
 
 // Three characters, of which one that isn't set is `-`.
-pub fn put_flags(room: &mut [u8], from: usize, flags: DssFlags) -> usize
-    ensures { Puts (flags_text flags) room.old «from» result room.new }
+pub fn put_flags(text: &mut Text, flags: DssFlags)
+    ensures { PutsText (flags_text flags) text.old text.new }
 {
-    let at = text::put_byte(room, from, letter(flags.chained, b'c'));
-    let at = text::put_byte(room, at, letter(flags.continue_on_error, b'e'));
-    text::put_byte(room, at, letter(flags.same_correlation, b's'))
+    text.put_byte(letter(flags.chained, b'c'));
+    text.put_byte(letter(flags.continue_on_error, b'e'));
+    text.put_byte(letter(flags.same_correlation, b's'));
 }
 
 // The line of a frame whose first byte stands at `first`.
-pub fn put_frame(room: &mut [u8], from: usize, first: usize, measure: FrameMeasure) -> usize
-    ensures { Puts (frame_text first measure.header measure.segments measure.payload_len) room.old «from» result room.new }
+pub fn put_frame(text: &mut Text, first: usize, measure: FrameMeasure)
+    ensures { PutsText (frame_text first measure.header measure.segments measure.payload_len) text.old text.new }
 {
     let header = measure.header;
-    let dss_type = header.dss_type;
-    let flags = header.flags;
-    let at = text::put_number(room, from, b"at ", first);
-    let at = text::put_text(room, at, b" ");
-    let at = put_type(room, at, dss_type);
-    let at = text::put_text(room, at, b" ");
-    let at = put_flags(room, at, flags);
-    let at = text::put_number(room, at, b" corr ", header.correlation_id as usize);
-    let at = text::put_number(room, at, b" seg ", measure.segments);
-    let at = text::put_number(room, at, b" bytes ", measure.payload_len);
-    text::put_text(room, at, b"\n")
+    text.put_number(b"at ", first);
+    text.put_text(b" ");
+    put_type(text, header.dss_type);
+    text.put_text(b" ");
+    put_flags(text, header.flags);
+    text.put_number(b" corr ", usize::from(header.correlation_id));
+    text.put_number(b" seg ", measure.segments);
+    text.put_number(b" bytes ", measure.payload_len);
+    text.put_text(b"\n");
 }
 
 // The line of a refusal.
-pub fn put_refused(room: &mut [u8], from: usize, refused: Refused) -> usize
-    ensures { Puts (refused_text refused) room.old «from» result room.new }
+pub fn put_refused(text: &mut Text, refused: Refused)
+    ensures { PutsText (refused_text refused) text.old text.new }
 {
-    let why = refused.why;
-    let at = text::put_number(room, from, b"refused ", why.number() as usize);
-    let at = text::put_number(room, at, b" at ", refused.place);
-    let at = text::put_number(room, at, b" value ", why.first_value());
-    text::put_text(room, at, b"\n")
+    let Refused { why, place } = refused;
+    text.put_number(b"refused ", usize::from(why.number()));
+    text.put_number(b" at ", place);
+    text.put_number(b" value ", why.first_value());
+    text.put_text(b"\n");
 }
 
 // The last line.
-pub fn put_end(room: &mut [u8], from: usize, position: usize, left: usize) -> usize
-    ensures { Puts (end_text position left) room.old «from» result room.new }
+pub fn put_end(text: &mut Text, position: usize, left: usize)
+    ensures { PutsText (end_text position left) text.old text.new }
 {
-    let at = text::put_number(room, from, b"end ", position);
-    let at = text::put_number(room, at, b" left ", left);
-    text::put_text(room, at, b"\n")
+    text.put_number(b"end ", position);
+    text.put_number(b" left ", left);
+    text.put_text(b"\n");
 }

@@ -23,10 +23,10 @@ pub puts_one : {text room : List ℕ} {at : ℕ} (r r' : ℕ) (l l' : List ℕ) 
 puts_one r r' l l' p q = (p.mark ∙ sym q.mark, p.room_is ∙ sym q.room_is)
 
 -- two texts on their way that show the same
-abbrev Same : Text → Text → Type 0
-Same t t' = (t.at ≡ t'.at) × (t.room.now ≡ t'.room.now) × (t.room.ghost_name ≡ t'.room.ghost_name)
+abbrev pub SameText : Text → Text → Type 0
+SameText t t' = (t.at ≡ t'.at) × (t.room.now ≡ t'.room.now) × (t.room.ghost_name ≡ t'.room.ghost_name)
 
-pub puts_text_one : {words : List ℕ} {before : Text} (t t' : Text) → PutsText words before t → PutsText words before t' → Same t t'
+pub puts_text_one : {words : List ℕ} {before : Text} (t t' : Text) → PutsText words before t → PutsText words before t' → SameText t t'
 puts_text_one t t' p q =
     let e = puts_one _ _ _ _ p.puts q.puts in
     (e.0, e.1, p.same_room ∙ sym q.same_room)
@@ -42,7 +42,7 @@ puts_text_some words t = record { puts = record { mark = refl; room_is = refl };
 module _ (κs : Lfts 2) (self : MutBor Text) where
   module _ (b : ℕ) where
     pub put_byte_one : (t t' : Text) → put_byte.Post κs (self, (b, tt)) tt (at_last self t, (b, tt))
-        → put_byte.Post κs (self, (b, tt)) tt (at_last self t', (b, tt)) → Same t t'
+        → put_byte.Post κs (self, (b, tt)) tt (at_last self t', (b, tt)) → SameText t t'
     put_byte_one t t' p q = puts_text_one t t' p q
 
     pub put_byte_some : put_byte.Post κs (self, (b, tt)) tt (at_last self (text_with self.now (b ∷ [])), (b, tt))
@@ -50,7 +50,7 @@ module _ (κs : Lfts 2) (self : MutBor Text) where
 
   module _ (n : ℕ) where
     pub put_decimal_one : (t t' : Text) → put_decimal.Post κs (self, (n, tt)) tt (at_last self t, (n, tt))
-        → put_decimal.Post κs (self, (n, tt)) tt (at_last self t', (n, tt)) → Same t t'
+        → put_decimal.Post κs (self, (n, tt)) tt (at_last self t', (n, tt)) → SameText t t'
     put_decimal_one t t' p q = puts_text_one t t' p q
 
     pub put_decimal_some : put_decimal.Post κs (self, (n, tt)) tt (at_last self (text_with self.now (decimal n)), (n, tt))
@@ -58,7 +58,7 @@ module _ (κs : Lfts 2) (self : MutBor Text) where
 
 module _ (κs : Lfts 3) (self : MutBor Text) (words : Bor (List ℕ)) where
   pub put_text_one : (t t' : Text) → put_text.Post κs (self, (words, tt)) tt (at_last self t, (words, tt))
-      → put_text.Post κs (self, (words, tt)) tt (at_last self t', (words, tt)) → Same t t'
+      → put_text.Post κs (self, (words, tt)) tt (at_last self t', (words, tt)) → SameText t t'
   put_text_one t t' p q = puts_text_one t t' p q
 
   pub put_text_some : put_text.Post κs (self, (words, tt)) tt (at_last self (text_with self.now words.now), (words, tt))
@@ -66,7 +66,7 @@ module _ (κs : Lfts 3) (self : MutBor Text) (words : Bor (List ℕ)) where
 
   module _ (n : ℕ) where
     pub put_number_one : (t t' : Text) → put_number.Post κs (self, (words, (n, tt))) tt (at_last self t, (words, (n, tt)))
-        → put_number.Post κs (self, (words, (n, tt))) tt (at_last self t', (words, (n, tt))) → Same t t'
+        → put_number.Post κs (self, (words, (n, tt))) tt (at_last self t', (words, (n, tt))) → SameText t t'
     put_number_one t t' p q = puts_text_one t t' p q
 
     pub put_number_some : put_number.Post κs (self, (words, (n, tt))) tt (at_last self (text_with self.now (words.now ++ decimal n)), (words, (n, tt)))
