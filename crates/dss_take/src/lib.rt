@@ -118,12 +118,7 @@ pub fn measure(rules: Rules, run: &[u8], at: usize) -> Result<FrameMeasure, Refu
 
 // The same frame, its payload laid at the room's start: all refusals, 9 last. It measures the run itself, whatever its caller has
 // measured before; and not through `measure` above, by which the compiled code was a fiftieth slower.
-pub fn take(
-    rules: Rules,
-    run: &[u8],
-    at: usize,
-    room: &mut [u8],
-) -> Result<FrameMeasure, Refused>
+pub fn take(rules: Rules, run: &[u8], at: usize, room: &mut [u8]) -> Result<FrameMeasure, Refused>
     ensures { Takes rules run.now at room.old result room.new }
 {
     let frame = dss_measure::measure(rules, run, at)?;
