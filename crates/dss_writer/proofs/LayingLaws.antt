@@ -1,27 +1,30 @@
 -- The laws that the writer's proofs rest on: chunks laid one behind the other, and what room there is for a frame.
 use Rattle.std.specs.Prelude.{Result, Ok, Err}
-use Prim.Native.Nat.{ℕ, ◌+◌, ◌-◌, ◌^◌, ◌≤◌, ◌<◌}
-use native.Mathlib.Nat.{zero-add, sub-zero}
+use Prim.Native.Nat.{ℕ, min, ◌+◌, ◌-◌, ◌^◌, ◌≤◌, ◌<◌}
+use native.Mathlib.Nat.{zero-add}
 use native.Mathlib.Omega.{arith}
 use mathlib.Core.Path.{◌≡◌, refl, sym, ap, ◌∙◌}
 use mathlib.Core.List.{List, [], ◌++◌, append_assoc}
-use lib.Dec.{leb}
+use lib.Dec.{ltb, leb}
 use lib.ListN.{length, take, drop, length-append, length-drop}
 use lib.Seq.{length-take-le, drop-drop}
-use borrow.Author.Tests.{lt-ltb, le-leb, leb-true, leb-false}
-use Rattle.wire.specs.Bytes.{two, splice, laid}
+use borrow.Author.Tests.{lt-ltb, le-leb, lt-leb, ltb-true, ltb-false, leb-true, leb-false}
+use Rattle.wire.specs.Bytes.{two, splice}
 use Rattle.wire.proofs.WireLaws.{pick_yes, pick_no, picked, by}
 use Rattle.wire.proofs.Splicing.{splice_none, splice_length, laid_fits, laid_kept}
-use Rattle.answer.specs.Rooms.{capped, room_for, laid_at_start, Lays}
+use Rattle.answer.specs.Rooms.{capped, room_for}
 use Rattle.answer.specs.declared.Refused.{Refused}
 use Rattle.dss_head.specs.Heads.{head_bytes}
 use Rattle.dss_frame.specs.Written.{Sent, head_of, chunks, written, frame_size}
 use Rattle.dss_laws.proofs.ChunkLaws.{chunks_last, chunks_more}
-use Rattle.dss_laws.proofs.WritingLaws.{written_single, written_several, written_size}
+use Rattle.dss_laws.proofs.WritingLaws.{written_several, written_size}
 use Rattle.dss_writer.specs.declared.DssWriter.{DssWriter}
-use Rattle.dss_writer.specs.Writer.{fresh_writer, wrote_by, wrote, Writes}
-use Rattle.wire.proofs.LentParts.{tail, back, tail_drop, lent, next}
-use Rattle.dss_writer.specs.inner.AsLaid.{as_laid}
+use Rattle.dss_writer.specs.Writer.{wrote_by, wrote, Writes}
+use Rattle.wire.proofs.LentParts.{tail, back, tail_drop, next}
+use Rattle.dss_writer.specs.inner.LaidUnder.{raw_length_of, laid_under}
+use Rattle.dss_head.specs.declared.DssHeader.{DssHeader}
+use Rattle.dss_head.specs.declared.DssType.TheVariants.{Request}
+use mathlib.Core.Bool.{false}
 
 -- ---- chunks
 
@@ -105,42 +108,58 @@ module _ (bytes old room : List ℕ) (from at : ℕ) (fits : length (chunks byte
         chunked_next (two (length bytes - from + 2) ++ drop from bytes) t e
         ∙ ap (splice old 0) (ap (λ (l : List ℕ). so_far.front ++ l) (sym last_whole) ∙ so_far.whole)
 
--- ---- a frame in a room that it fits into
+-- ---- a frame under a head, at the start of a room that it fits into
 
-module _ (f : Sent) (room : List ℕ) (at : ℕ) (h : at + frame_size (length f.payload) ≤ length room) where
-  module _ (k : length f.payload ≤ 32761) where
-    pub single_room : at + (6 + length f.payload) ≤ length room
+-- under the head that has its raw length, it is the written frame
+pub written_under : (f : Sent) → laid_under (head_of f (raw_length_of (length f.payload))) f.payload ≡ written f
+unfolding written
+written_under f = by (leb (length f.payload) 32761) (λ t. rw t) (λ t. rw t)
+
+module _ (h : DssHeader) (payload room : List ℕ) (k : frame_size (length payload) ≤ length room) where
+  module _ (l : length payload ≤ 32761) where
+    pub single_room : 6 + length payload ≤ length room
     unfolding frame_size
     single_room = omega arith
 
-    -- one segment, in the tail from `at` on
-    pub single_laid : (t : List ℕ) → t ≡ splice (tail room at) 0 (head_bytes (head_of f (length f.payload + 6)) ++ f.payload) → back room at t ≡ splice room at (written f)
-    single_laid t e = lent room at t (head_bytes (head_of f (length f.payload + 6)) ++ f.payload) e ∙ ap (splice room at) (sym (written_single f k))
+    -- one segment
+    pub single_laid : (t : List ℕ) → t ≡ splice room 0 (head_bytes h ++ payload) → t ≡ splice room 0 (laid_under h payload)
+    single_laid t e = e ∙ ap (splice room 0) (sym (pick_yes _ _ (le-leb (length payload) 32761 l)))
 
-  module _ (k : 32761 < length f.payload) where
-    pub first_length : length (take 32761 f.payload) ≡ 32761
-    first_length = length-take-le 32761 f.payload (omega arith)
+  module _ (l : 32761 < length payload) where
+    pub first_length : length (take 32761 payload) ≡ 32761
+    first_length = length-take-le 32761 payload (omega arith)
 
-    pub several_room : at + 32767 + length (chunks (drop 32761 f.payload)) ≤ length room
+    pub several_room : 32767 + length (chunks (drop 32761 payload)) ≤ length room
     several_room =
+        let f : Sent = record { type = Request; chained = false; same = false; correlation = 0; payload = payload } in
         omega (
           arith,
           written_size f,
-          ap length (written_several f k),
-          length-append (take 32761 f.payload) (chunks (drop 32761 f.payload)),
+          ap length (written_several f l),
+          length-append (take 32761 payload) (chunks (drop 32761 payload)),
           first_length,
         )
 
+    -- the first segment leaves the room as long as it was
+    pub first_kept : (s : List ℕ) → s ≡ splice room 0 (head_bytes h ++ take 32761 payload) → length s ≡ length room
+    first_kept s e = ap length e ∙ splice_length room 0 (head_bytes h ++ take 32761 payload) (omega (arith, several_room, first_length))
+
     -- the first segment, and the chunks in the tail behind it
-    pub several_laid : (s t : List ℕ) → s ≡ splice (tail room at) 0 (head_bytes (head_of f 65535) ++ take 32761 f.payload)
-        → t ≡ splice (tail (back room at s) (at + 32767)) 0 (chunks (tail f.payload 32761)) → back (back room at s) (at + 32767) t ≡ splice room at (written f)
+    pub several_laid : (s t : List ℕ) → s ≡ splice room 0 (head_bytes h ++ take 32761 payload)
+        → t ≡ splice (tail s 32767) 0 (chunks (tail payload 32761)) → back s 32767 t ≡ splice room 0 (laid_under h payload)
     several_laid s t e d =
-        let x : List ℕ = head_bytes (head_of f 65535) ++ take 32761 f.payload in
-        next room at x (back room at s) (at + 32767) t (chunks (tail f.payload 32761)) (omega (arith, several_room)) (lent room at s x e) (omega (arith, first_length)) d
-        ∙ ap (λ (l : List ℕ). splice room at (x ++ chunks l)) (tail_drop f.payload 32761)
-        ∙ ap (splice room at) (sym (written_several f k))
+        let x : List ℕ = head_bytes h ++ take 32761 payload in
+        next room 0 x s 32767 t (chunks (tail payload 32761)) (omega arith) e (omega (arith, first_length)) d
+        ∙ ap (λ (l : List ℕ). splice room 0 (x ++ chunks l)) (tail_drop payload 32761)
+        ∙ ap (splice room 0) (sym (pick_no _ _ (lt-leb (length payload) 32761 l)))
 
 -- ---- room for a frame
+
+-- a need that saturates is capped
+pub capped_min : (n : ℕ) → min n (2 ^ 64 - 1) ≡ capped n
+capped_min n =
+    by (ltb n (2 ^ 64)) (λ t. let h = ltb-true n (2 ^ 64) t in let e : min n (2 ^ 64 - 1) ≡ n = omega arith in e ∙ sym (pick_yes _ _ t))
+    (λ t. let h = ltb-false n (2 ^ 64) t in let e : min n (2 ^ 64 - 1) ≡ 2 ^ 64 - 1 = omega arith in e ∙ sym (pick_no _ _ t))
 
 pub capped_same : (n : ℕ) → n < 2 ^ 64 → capped n ≡ n
 capped_same n h = pick_yes _ _ (lt-ltb n (2 ^ 64) h)
@@ -185,22 +204,3 @@ module _ (w : DssWriter) (f : Sent) (room : List ℕ) (n : ℕ) (size : n ≡ le
     answers = ap (wrote_by w n) (sym e) ∙ ap (wrote w (length room)) size;
     room_is = sym (laid_kept room w.fill (written f) (omega (arith, short r e)));
   }
-
--- ---- a frame at the room's first byte
-
-fresh_laid : (correlation size n : ℕ) → as_laid (wrote (fresh_writer correlation) size n) ≡ laid_at_start 0 size n
-fresh_laid correlation size n =
-    ap (λ r. as_laid (wrote_by (fresh_writer correlation) n r)) (pick_yes _ _ (le-leb 0 size (omega arith)))
-    ∙ by (leb n size)
-    (λ t. ap (λ r. as_laid (wrote_by (fresh_writer correlation) n r)) (pick_yes _ _ (ap (leb n) (sub-zero size) ∙ t)) ∙ ap Ok (zero-add n) ∙ sym (pick_yes _ _ t))
-    (λ t. ap (λ r. as_laid (wrote_by (fresh_writer correlation) n r)) (pick_no _ _ (ap (leb n) (sub-zero size) ∙ t)) ∙ sym (pick_no _ _ t))
-
--- a frame of the writer's correlation, from a fresh writer
-pub writes_lays : (correlation : ℕ) (frame : ℕ → Sent) (room : List ℕ) (w : DssWriter) (r : Result DssWriter Refused) (after : List ℕ) → w ≡ fresh_writer correlation
-    → Writes w (frame w.correlation_id) room r after → Lays (written (frame correlation)) room (as_laid r) after
-writes_lays correlation frame room w r after e p = record {
-  answers =
-      ap as_laid (p.answers ∙ ap (λ (v : DssWriter). wrote v (length room) (length (written (frame v.correlation_id)))) e)
-      ∙ fresh_laid correlation (length room) (length (written (frame correlation)));
-  room_is = p.room_is ∙ ap (λ (v : DssWriter). laid room v.fill (written (frame v.correlation_id))) e;
-}

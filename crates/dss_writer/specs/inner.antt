@@ -1,1 +1,1 @@
-pub mod AsLaid
+pub mod LaidUnder

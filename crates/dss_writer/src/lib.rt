@@ -2,16 +2,16 @@
 // and the room is lent to each call.
 #![tactic(auto)]
 
-ghost use Rattle.std.specs.Prelude.{◌+◌, ◌^◌, ◌≤◌, ◌<◌, ◌≡◌, true, false, [], ◌++◌, length, Ok};
-ghost use Rattle.wire.specs.Bytes.{two, splice, laid};
+ghost use Rattle.std.specs.Prelude.{◌+◌, ◌≤◌, ◌≡◌, true, false, ◌++◌, length};
+ghost use Rattle.wire.specs.Bytes.{two, splice};
 ghost use Rattle.answer.specs.Rooms.{capped, Lays};
 ghost use Rattle.dss_head.specs.declared.DssType.TheVariants.{Request as asRequest, Object as asObject, NoReply as asNoReply};
 ghost use Rattle.dss_head.specs.Heads.{head_bytes};
-ghost use Rattle.dss_frame.specs.Written.{head_of, chunks, written, frame_size};
-ghost use Rattle.dss_writer.specs.Writer.{fresh_writer, finished, with_correlation, next_correlation, FilledAt, sent, wrote_by, Writes};
-ghost use Rattle.dss_writer.specs.inner.AsLaid.{as_laid};
+ghost use Rattle.dss_frame.specs.Written.{chunks, written, frame_size};
+ghost use Rattle.dss_writer.specs.Writer.{fresh_writer, finished, with_correlation, next_correlation, FilledAt, sent, Writes};
+ghost use Rattle.dss_writer.specs.inner.LaidUnder.{raw_length_of, laid_under};
 
-use answer::{Laid, Refused, RoomFor};
+use answer::Refused;
 use dss_head::{
     DSS_CONTINUATION_HEADER_LEN, DSS_CONTINUATION_PAYLOAD_LEN, DSS_CONTINUED,
     DSS_FIRST_PAYLOAD_LEN, DSS_FULL_SEGMENT_LEN, DSS_HEADER_LEN, DssFlags, DssHeader, DssType,
@@ -24,77 +24,34 @@ pub struct DssWriter {
     pub fill: usize,
 }
 
-// What writing a frame comes to: the state after it, or the refusal, which leaves state and room as they were.
-#[derive(Clone, Copy)]
-pub enum Wrote {
-    Done(DssWriter),
-    Refused(Refused),
-}
-
 // The bytes that a frame takes, of its payload's length; 2^64 - 1 where they are more.
 pub fn frame_size(payload_len: usize) -> usize
     ensures { result ≡ capped (frame_size payload_len) }
 {
-    if payload_len <= DSS_FIRST_PAYLOAD_LEN {
-        return payload_len + DSS_HEADER_LEN;
-    }
-    let above = payload_len - DSS_FIRST_PAYLOAD_LEN;
-    // One for each 32,765 bytes or part of them. To add 32,764 before the division instead would wrap from 2^64 - 3 on.
-    let continuations = (above - 1) / DSS_CONTINUATION_PAYLOAD_LEN + 1;
+    let above = payload_len.saturating_sub(DSS_FIRST_PAYLOAD_LEN);
+    let continuations = above.div_ceil(DSS_CONTINUATION_PAYLOAD_LEN);
     let framing = DSS_HEADER_LEN + DSS_CONTINUATION_HEADER_LEN * continuations;
-    if usize::MAX - framing < payload_len {
-        return usize::MAX;
-    }
-    payload_len + framing
+    payload_len.saturating_add(framing)
 }
 
-// A frame's head at the room's start, where it has six bytes. Continue on error is never set.
-pub(crate) fn lay_head(
-    correlation_id: u16,
-    dss_type: DssType,
-    chained: bool,
-    same_correlation: bool,
-    raw_length: u16,
-    room: &mut [u8],
-)
-    ensures { room.new ≡ laid room.old 0 (head_bytes (head_of (sent correlation_id dss_type chained same_correlation []) raw_length)) }
+// The raw length in the head of a frame, of its payload's length.
+pub(crate) fn raw_length(payload_len: usize) -> u16
+    ensures { result ≡ raw_length_of payload_len }
 {
-    let flags = DssFlags {
-        chained,
-        continue_on_error: false,
-        same_correlation,
-    };
-    let header = DssHeader {
-        length: raw_length,
-        dss_type,
-        flags,
-        correlation_id,
-    };
-    header.serialize(room);
+    if payload_len <= DSS_FIRST_PAYLOAD_LEN {
+        (payload_len + DSS_HEADER_LEN) as u16
+    } else {
+        DSS_CONTINUED
+    }
 }
 
 // A frame's first segment at the room's start: its head, and its bytes.
-pub(crate) fn lay_segment(
-    correlation_id: u16,
-    dss_type: DssType,
-    chained: bool,
-    same_correlation: bool,
-    raw_length: u16,
-    bytes: &[u8],
-    room: &mut [u8],
-)
+pub(crate) fn lay_segment(header: DssHeader, bytes: &[u8], room: &mut [u8])
     requires { 6 + length bytes.now ≤ length room.old }
-    ensures { room.new ≡ splice room.old 0 (head_bytes (head_of (sent correlation_id dss_type chained same_correlation []) raw_length) ++ bytes.now) }
+    ensures { room.new ≡ splice room.old 0 (head_bytes header ++ bytes.now) }
 {
-    lay_head(
-        correlation_id,
-        dss_type,
-        chained,
-        same_correlation,
-        raw_length,
-        room,
-    );
-    wire::lay_at(bytes, room, DSS_HEADER_LEN);
+    let behind = header.serialize(room).unwrap();
+    wire::lay_at(bytes, room, behind);
 }
 
 // A continuation at the room's start: its length, and its bytes.
@@ -111,27 +68,35 @@ pub(crate) fn lay_chunks(bytes: &[u8], room: &mut [u8])
     requires { length (chunks bytes.now) ≤ length room.old }
     ensures { room.new ≡ splice room.old 0 (chunks bytes.now) }
 {
-    let mut from: usize = 0;
-    let mut at: usize = 0;
-    while DSS_CONTINUATION_PAYLOAD_LEN < bytes.len() - from {
+    // All but the last are full. With no bytes there is one, too.
+    let full = bytes.len().saturating_sub(1) / DSS_CONTINUATION_PAYLOAD_LEN;
+    for i in 0..full {
+        let from = i * DSS_CONTINUATION_PAYLOAD_LEN;
         let end = from + DSS_CONTINUATION_PAYLOAD_LEN;
-        lay_chunk(DSS_CONTINUED, &bytes[from..end], &mut room[at..]);
-        from = end;
-        at += DSS_FULL_SEGMENT_LEN;
+        lay_chunk(
+            DSS_CONTINUED,
+            &bytes[from..end],
+            &mut room[i * DSS_FULL_SEGMENT_LEN..],
+        );
     }
-    let raw_length = (bytes.len() - from + DSS_CONTINUATION_HEADER_LEN) as u16;
-    lay_chunk(raw_length, &bytes[from..], &mut room[at..]);
+    let last = &bytes[full * DSS_CONTINUATION_PAYLOAD_LEN..];
+    let raw_length = (last.len() + DSS_CONTINUATION_HEADER_LEN) as u16;
+    lay_chunk(raw_length, last, &mut room[full * DSS_FULL_SEGMENT_LEN..]);
 }
 
-impl Wrote {
-    // What a fresh writer answers, as bytes laid at the room's first byte.
-    pub(crate) fn laid(self) -> Laid
-        ensures { result ≡ as_laid self }
-    {
-        match self {
-            Wrote::Done(writer) => Laid::Bytes(writer.fill),
-            Wrote::Refused(refused) => Laid::Refused(refused),
-        }
+// A frame at the room's start, under a head that has its raw length.
+pub(crate) fn lay_frame(header: DssHeader, payload: &[u8], room: &mut [u8])
+    requires { frame_size (length payload.now) ≤ length room.old }
+    ensures { room.new ≡ splice room.old 0 (laid_under header payload.now) }
+{
+    if payload.len() <= DSS_FIRST_PAYLOAD_LEN {
+        lay_segment(header, payload, room);
+    } else {
+        lay_segment(header, &payload[..DSS_FIRST_PAYLOAD_LEN], room);
+        lay_chunks(
+            &payload[DSS_FIRST_PAYLOAD_LEN..],
+            &mut room[DSS_FULL_SEGMENT_LEN..],
+        );
     }
 }
 
@@ -156,12 +121,11 @@ impl DssWriter {
     pub fn data<'a>(self, room: &'a [u8]) -> &'a [u8]
         ensures { FilledAt room.entry self.fill result }
     {
-        let fill = self.fill;
-        if fill <= room.len() {
-            return &room[..fill];
+        if self.fill <= room.len() {
+            &room[..self.fill]
+        } else {
+            &room[room.len()..]
         }
-        let end = room.len();
-        &room[end..end]
     }
 
     pub fn correlation_id(self) -> u16
@@ -175,7 +139,7 @@ impl DssWriter {
     {
         Self {
             correlation_id: id,
-            fill: self.fill,
+            ..self
         }
     }
 
@@ -183,61 +147,7 @@ impl DssWriter {
     pub fn next_correlation_id(self) -> Self
         ensures { result ≡ next_correlation self }
     {
-        let id = self.correlation_id;
-        if id == 65535 {
-            return self.set_correlation_id(0);
-        }
-        self.set_correlation_id(id + 1)
-    }
-
-    // The writer after a frame of this size.
-    pub(crate) fn moved(self, size: usize) -> Wrote
-        requires { self.fill + size < 2 ^ 64 }
-        ensures { result ≡ wrote_by self size (Ok tt) }
-    {
-        Wrote::Done(DssWriter {
-            correlation_id: self.correlation_id,
-            fill: self.fill + size,
-        })
-    }
-
-    // A frame in the room from the fill mark on.
-    pub(crate) fn lay_frame(
-        self,
-        dss_type: DssType,
-        chained: bool,
-        same_correlation: bool,
-        payload: &[u8],
-        room: &mut [u8],
-    )
-        requires { self.fill + frame_size (length payload.now) ≤ length room.old }
-        ensures { room.new ≡ splice room.old self.fill (written (sent self.correlation_id dss_type chained same_correlation payload.now)) }
-    {
-        let fill = self.fill;
-        if payload.len() <= DSS_FIRST_PAYLOAD_LEN {
-            let raw_length = (payload.len() + DSS_HEADER_LEN) as u16;
-            lay_segment(
-                self.correlation_id,
-                dss_type,
-                chained,
-                same_correlation,
-                raw_length,
-                payload,
-                &mut room[fill..],
-            );
-            return;
-        }
-        lay_segment(
-            self.correlation_id,
-            dss_type,
-            chained,
-            same_correlation,
-            DSS_CONTINUED,
-            &payload[..DSS_FIRST_PAYLOAD_LEN],
-            &mut room[fill..],
-        );
-        let next = fill + DSS_FULL_SEGMENT_LEN;
-        lay_chunks(&payload[DSS_FIRST_PAYLOAD_LEN..], &mut room[next..]);
+        self.set_correlation_id(self.correlation_id.wrapping_add(1))
     }
 
     // Lays one frame into the room from the fill mark onward: refusals 10, 9.
@@ -248,17 +158,26 @@ impl DssWriter {
         same_correlation: bool,
         payload: &[u8],
         room: &mut [u8],
-    ) -> Wrote
+    ) -> Result<DssWriter, Refused>
         ensures { Writes self (sent self.correlation_id dss_type chained same_correlation payload.now) room.old result room.new }
     {
         let size = frame_size(payload.len());
-        match answer::room_for(self.fill, room.len(), size) {
-            RoomFor::Refused(refused) => Wrote::Refused(refused),
-            RoomFor::Enough => {
-                self.lay_frame(dss_type, chained, same_correlation, payload, room);
-                self.moved(size)
-            }
-        }
+        answer::room_for(self.fill, room.len(), size)?;
+        let header = DssHeader {
+            length: raw_length(payload.len()),
+            dss_type,
+            flags: DssFlags {
+                chained,
+                continue_on_error: false,
+                same_correlation,
+            },
+            correlation_id: self.correlation_id,
+        };
+        lay_frame(header, payload, &mut room[self.fill..]);
+        Ok(DssWriter {
+            fill: self.fill + size,
+            ..self
+        })
     }
 
     // Same correlation clear.
@@ -268,33 +187,53 @@ impl DssWriter {
         chained: bool,
         payload: &[u8],
         room: &mut [u8],
-    ) -> Wrote
+    ) -> Result<DssWriter, Refused>
         ensures { Writes self (sent self.correlation_id dss_type chained false payload.now) room.old result room.new }
     {
         self.write_dss_full(dss_type, chained, false, payload, room)
     }
 
-    pub fn write_request(self, payload: &[u8], chained: bool, room: &mut [u8]) -> Wrote
+    pub fn write_request(
+        self,
+        payload: &[u8],
+        chained: bool,
+        room: &mut [u8],
+    ) -> Result<DssWriter, Refused>
         ensures { Writes self (sent self.correlation_id asRequest chained false payload.now) room.old result room.new }
     {
         self.write_dss(DssType::Request, chained, payload, room)
     }
 
     // A request that wants no reply: W-210.
-    pub fn write_request_no_reply(self, payload: &[u8], chained: bool, room: &mut [u8]) -> Wrote
+    pub fn write_request_no_reply(
+        self,
+        payload: &[u8],
+        chained: bool,
+        room: &mut [u8],
+    ) -> Result<DssWriter, Refused>
         ensures { Writes self (sent self.correlation_id asNoReply chained false payload.now) room.old result room.new }
     {
         self.write_dss(DssType::NoReply, chained, payload, room)
     }
 
-    pub fn write_object(self, payload: &[u8], chained: bool, room: &mut [u8]) -> Wrote
+    pub fn write_object(
+        self,
+        payload: &[u8],
+        chained: bool,
+        room: &mut [u8],
+    ) -> Result<DssWriter, Refused>
         ensures { Writes self (sent self.correlation_id asObject chained false payload.now) room.old result room.new }
     {
         self.write_dss(DssType::Object, chained, payload, room)
     }
 
     // An object that goes with the request before it.
-    pub fn write_object_same_corr(self, payload: &[u8], chained: bool, room: &mut [u8]) -> Wrote
+    pub fn write_object_same_corr(
+        self,
+        payload: &[u8],
+        chained: bool,
+        room: &mut [u8],
+    ) -> Result<DssWriter, Refused>
         ensures { Writes self (sent self.correlation_id asObject chained true payload.now) room.old result room.new }
     {
         self.write_dss_full(DssType::Object, chained, true, payload, room)
@@ -306,7 +245,7 @@ impl DssWriter {
         payload: &[u8],
         chained: bool,
         room: &mut [u8],
-    ) -> Wrote
+    ) -> Result<DssWriter, Refused>
         ensures { Writes self (sent self.correlation_id asRequest chained true payload.now) room.old result room.new }
     {
         self.write_dss_full(DssType::Request, chained, true, payload, room)
@@ -319,17 +258,22 @@ pub fn build_dss_request(
     chained: bool,
     payload: &[u8],
     room: &mut [u8],
-) -> Laid
+) -> Result<usize, Refused>
     ensures { Lays (written (sent correlation_id asRequest chained false payload.now)) room.old result room.new }
 {
-    let wrote = DssWriter::new(correlation_id).write_request(payload, chained, room);
-    wrote.laid()
+    let writer = DssWriter::new(correlation_id).write_request(payload, chained, room)?;
+    Ok(writer.fill)
 }
 
 // One object frame at the room's first byte: refusal 9.
-pub fn build_dss_object(correlation_id: u16, chained: bool, payload: &[u8], room: &mut [u8]) -> Laid
+pub fn build_dss_object(
+    correlation_id: u16,
+    chained: bool,
+    payload: &[u8],
+    room: &mut [u8],
+) -> Result<usize, Refused>
     ensures { Lays (written (sent correlation_id asObject chained false payload.now)) room.old result room.new }
 {
-    let wrote = DssWriter::new(correlation_id).write_object(payload, chained, room);
-    wrote.laid()
+    let writer = DssWriter::new(correlation_id).write_object(payload, chained, room)?;
+    Ok(writer.fill)
 }
