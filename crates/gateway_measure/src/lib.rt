@@ -25,11 +25,7 @@ pub fn rules_of(number: u8) -> Rules
 }
 
 // A frame that was measured at a place, or taken from there, and the position behind it; or why there is none.
-pub fn put_measured(
-    words: &mut [u64],
-    at: usize,
-    measured: Result<FrameMeasure, Refused>,
-) -> u8
+pub fn put_measured(words: &mut [u64], at: usize, measured: Result<FrameMeasure, Refused>) -> u8
     ensures { Answered (measured_words at measured) words.old result words.new }
 {
     match measured {
