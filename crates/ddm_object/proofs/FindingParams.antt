@@ -1,5 +1,5 @@
 -- One step of the walk over parameters, as a walker makes it; and the loop that looks for the first with a code point.
-use Rattle.std.specs.Prelude.{Ok, Err, Some, None}
+use Rattle.std.specs.Prelude.{Result, Ok, Err, Some, None}
 use Prim.Native.Nat.{ℕ, ◌+◌, ◌≤◌, ◌<◌}
 use native.Mathlib.Omega.{arith}
 use mathlib.Core.Path.{◌≡◌, refl, sym, ◌∙◌, ap}
@@ -52,8 +52,14 @@ pub record StepOf (s : List ℕ) (at : ℕ) (rec : DdmObject) (next : ℕ) : Typ
   pub on : at + 4 ≤ next
   pub within : next ≤ length s
 
-never : {P : Type 0} {rec : DdmObject} {next : ℕ} {r : Refused} → Ok (rec, next) ≡ Err r → P
+abbrev Step : Type 0
+Step = Result (DdmObject × ℕ) Refused
+
+never : {P : Type 0} {x : DdmObject × ℕ} {r : Refused} → ◌≡◌ {A = Step} (Ok x) (Err r) → P
 never e = absurd (let z : ◌≡◌ {A = ℕ} 0 1 = cc in omega arith)
+
+same : {x y : DdmObject × ℕ} → ◌≡◌ {A = Step} (Ok x) (Ok y) → x ≡ y
+same e = cc
 
 pub step_of : (s : List ℕ) (at : ℕ) (rec : DdmObject) (next : ℕ) → param_step_at s at ≡ Ok (rec, next) → StepOf s at rec next
 unfolding param_step_at
@@ -61,9 +67,10 @@ step_of s at rec next e = picked (leb at (length s)) e (λ c r. go (parsed (drop
   where
     go : (p : Parsed) → parsed (drop at s) at ≡ p → step_parsed s at p ≡ Ok (rec, next) → StepOf s at rec next
     go (object o) q r =
-        let n : next ≡ at + o.consumed = cc in
+        let p : ◌≡◌ {A = DdmObject × ℕ} (object_record s at o, at + o.consumed) (rec, next) = same r in
+        let n : next ≡ at + o.consumed = sym (ap (λ (x : DdmObject × ℕ). x.1) p) in
         let z : (4 ≤ o.consumed) × (o.consumed ≤ length (drop at s)) = sized (found (drop at s) at o q) in
-        record { of = o; read = q; is = cc; next_is = n; on = omega arith; within = omega (arith, length-drop at s) }
+        record { of = o; read = q; is = ap (λ (x : DdmObject × ℕ). x.0) p; next_is = n; on = omega arith; within = omega (arith, length-drop at s) }
     go (refused x) q r = never (sym r)
 
 -- where there is none, within the data, nothing can be read

@@ -16,7 +16,6 @@ use Rattle.ddm_length.proofs.Fronts.{in_order, shrink}
 use Rattle.ddm_object.proofs.ObjectReads.{made, taken_parsed, content_plain, Reads, past, own_reads}
 use Rattle.ddm_object.specs.inner.Walked.{Refuses}
 use Rattle.ddm_length.specs.declared.Marshaled.{Marshaled}
-use Rattle.ddm_length.specs.Lengths.{takes}
 
 never : {P : Type 0} {r : Refused} {o : Object} → refused r ≡ object o → P
 never e = absurd (let z : ◌≡◌ {A = ℕ} 0 1 = cc in omega arith)
@@ -32,9 +31,9 @@ unfolding parsed
 found b place o e = go (measured b place) refl e
   where
     go : (m : Result Marshaled Refused) → measured b place ≡ m → object_of b m ≡ object o → Found b o
-    go (Ok (takes t h)) q r =
-        let same : made (be16 b 2) (content_of b t h) t ≡ o = cc in
-        subst (Found b) same (record { header = h; taken = measured_taken b t h place q; is = refl })
+    go (Ok m) q r =
+        let same : made (be16 b 2) (content_of b m.total m.header) m.total ≡ o = cc in
+        subst (Found b) same (record { header = m.header; taken = measured_taken b m.total m.header place q; is = refl })
     go (Err x) q r = never r
 
 module _ {b : List ℕ} {o : Object} (f : Found b o) where

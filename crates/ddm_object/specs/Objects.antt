@@ -5,7 +5,6 @@ use Rattle.answer.specs.declared.Refused.{Refused}
 use Rattle.ddm_length.specs.Lengths.{measured}
 use Rattle.ddm_length.specs.Markers.{unmarked}
 use Rattle.ddm_length.specs.declared.Marshaled.{Marshaled}
-use Rattle.ddm_length.specs.Lengths.{takes}
 
 -- an object or parameter as read
 pub record Object : Type 0 where
@@ -22,7 +21,7 @@ abbrev pub content_of : List ℕ → ℕ → ℕ → List ℕ
 content_of b total header = pick (eqb (be16 b 0) 0x8004) (unmarked (drop 4 b)) (take (total - header) (drop header b))
 
 abbrev pub object_of : List ℕ → Result Marshaled Refused → Parsed
-object_of b (Ok (takes total header)) = object (record { code_point = be16 b 2; content = content_of b total header; consumed = total })
+object_of b (Ok m) = object (record { code_point = be16 b 2; content = content_of b m.total m.header; consumed = m.total })
 object_of b (Err r) = refused r
 
 -- the object at the front of b, which stands at `place`

@@ -3,7 +3,7 @@ ghost use Rattle.std.specs.Prelude.{◌≡◌, ◌+◌, ◌≤◌, ◌<◌, ◌^
 ghost use Rattle.ddm_object.specs.ObjectCalls.{lies_in_work};
 ghost use Rattle.ddm_object.specs.inner.RecordsGiven.{record_found, GivesIn};
 
-use super::{DdmObject, ObjectFound};
+use super::DdmObject;
 use answer::Refused;
 use ddm_length::Marshaled;
 
@@ -11,49 +11,37 @@ use ddm_length::Marshaled;
 pub(crate) fn in_work(bytes: &[u8]) -> bool
     ensures { result ≡ lies_in_work bytes.now }
 {
-    if wire::u16_at(bytes, 0) == 0x8004 {
-        if bytes.len() < 4 {
-            return false;
-        }
-        return ddm_length::has_markers(&bytes[4..]);
-    }
-    false
+    wire::u16_at(bytes, 0) == 0x8004 && bytes.len() >= 4 && ddm_length::has_markers(&bytes[4..])
 }
 
 // The record of an object, by measuring alone; `bytes` is all that stands from its place on.
-pub(crate) fn record_in(bytes: &[u8], place: usize) -> ObjectFound
+#[tactic(auto, using(crate::proofs::ObjectRecords::record_refused))]
+pub(crate) fn record_in(bytes: &[u8], place: usize) -> Result<DdmObject, Refused>
     requires { place + length bytes.now < 2 ^ 64 }
     ensures { result ≡ record_found bytes.now place }
 {
-    match ddm_length::measure_at(bytes, place) {
-        Marshaled::Takes { total, header } => {
-            let code_point = wire::u16_at(bytes, 2);
-            if in_work(bytes) {
-                let data_len = ddm_length::unmarked_len(&bytes[4..]);
-                return ObjectFound::Object(DdmObject {
-                    code_point,
-                    in_work: true,
-                    data_at: 0,
-                    data_len,
-                    consumed: total,
-                });
-            }
-            return ObjectFound::Object(DdmObject {
-                code_point,
-                in_work: false,
-                data_at: place + header,
-                data_len: total - header,
-                consumed: total,
-            });
-        }
-        Marshaled::Refused(r) => {
-            return ObjectFound::Refused(r);
-        }
+    let Marshaled { total, header } = ddm_length::measure_at(bytes, place)?;
+    let code_point = wire::u16_at(bytes, 2);
+    if in_work(bytes) {
+        return Ok(DdmObject {
+            code_point,
+            in_work: true,
+            data_at: 0,
+            data_len: ddm_length::unmarked_len(&bytes[4..]),
+            consumed: total,
+        });
     }
+    Ok(DdmObject {
+        code_point,
+        in_work: false,
+        data_at: place + header,
+        data_len: total - header,
+        consumed: total,
+    })
 }
 
 // The same of the object at a place of a run: the part of the run from there on is handed on as a whole input.
-pub(crate) fn record_at(run: &[u8], at: usize) -> ObjectFound
+pub(crate) fn record_at(run: &[u8], at: usize) -> Result<DdmObject, Refused>
     requires { at ≤ length run.now }
     ensures { result ≡ record_found (drop at run.now) at }
 {
@@ -61,25 +49,22 @@ pub(crate) fn record_at(run: &[u8], at: usize) -> ObjectFound
 }
 
 // An object whose record is found first, and whose data then go into the work area: 9 at the position that the call has.
-pub(crate) fn parse_in(bytes: &[u8], place: usize, position: usize, work: &mut [u8]) -> ObjectFound
+#[tactic(auto, using(crate::proofs::ObjectRecords::gives_refused, crate::proofs::ObjectRecords::refused_of))]
+pub(crate) fn parse_in(
+    bytes: &[u8],
+    place: usize,
+    position: usize,
+    work: &mut [u8],
+) -> Result<DdmObject, Refused>
     requires { place + length bytes.now < 2 ^ 64 }
     ensures { GivesIn bytes.now place position work.old result work.new }
 {
-    match record_in(bytes, place) {
-        ObjectFound::Object(o) => {
-            if o.in_work {
-                let need = o.data_len;
-                if work.len() < need {
-                    let refused = Refused::no_room(need, 0, position);
-                    return ObjectFound::Refused(refused);
-                }
-                ddm_length::strip_extended_ddm_continuation_markers(&bytes[4..], work);
-                return ObjectFound::Object(o);
-            }
-            return ObjectFound::Object(o);
-        }
-        ObjectFound::Refused(r) => {
-            return ObjectFound::Refused(r);
-        }
+    let o = record_in(bytes, place)?;
+    if !o.in_work {
+        return Ok(o);
+    }
+    match ddm_length::strip_extended_ddm_continuation_markers(&bytes[4..], work) {
+        Ok(_) => Ok(o),
+        Err(_) => Err(Refused::no_room(o.data_len, 0, position)),
     }
 }

@@ -13,21 +13,21 @@ record_at-requires c = c.loop-o.invariant.within
 
 pub returns-then-o-code_point : goal.returns-then-o-code_point
 returns-then-o-code_point c =
-    looking_found _ _ _ c.loop-o.invariant _ (record_of _ _ _ (sym c.in-Object.ensures)) c.if-o-code_point.true
+    looking_found _ _ _ c.loop-o.invariant _ (record_of _ _ _ (sym c.in-Ok.ensures)) c.if-o-code_point.true
 
 pub overflow_add-at : goal.overflow_add-at
 overflow_add-at c =
-    omega (arith, record_next _ _ _ c.loop-o.invariant.within (record_of _ _ _ (sym c.in-Object.ensures)))
+    omega (arith, record_next _ _ _ c.loop-o.invariant.within (record_of _ _ _ (sym c.in-Ok.ensures)))
 
 pub loop-o-smaller : goal.loop-o-smaller
 loop-o-smaller c =
-    omega (arith, record_next _ _ _ c.loop-o.invariant.within (record_of _ _ _ (sym c.in-Object.ensures)))
+    omega (arith, record_next _ _ _ c.loop-o.invariant.within (record_of _ _ _ (sym c.in-Ok.ensures)))
 
 pub loop-o-preserved : goal.loop-o-preserved
 loop-o-preserved c =
-    let f = record_of _ _ _ (sym c.in-Object.ensures) in
+    let f = record_of _ _ _ (sym c.in-Ok.ensures) in
     looking_step _ _ _ c.loop-o.invariant _ f c.if-o-code_point.false (record_next _ _ _ c.loop-o.invariant.within f).1
 
-pub returns-in-Refused : goal.returns-in-Refused
-returns-in-Refused c =
-    looking_end _ _ _ _ c.loop-o.invariant (refused_of _ _ _ (sym c.in-Refused.ensures))
+pub returns : goal.returns
+returns c =
+    looking_end _ _ _ _ c.loop-o.invariant (refused_of _ _ _ (sym c.in_default.ensures))

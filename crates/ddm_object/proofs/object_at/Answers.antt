@@ -8,7 +8,7 @@ use Rattle.ddm_object.proofs.object_at.Goals as goal
 pub returns-then-run-at : goal.returns-then-run-at
 returns-then-run-at c =
     let s = c.args in
-    rw c.out_of_bounds-refused.ensures (beyond_place s.run.now s.at s.work.now c.if-run-at.true)
+    rw c.out_of_bounds.ensures (beyond_place s.run.now s.at s.work.now c.if-run-at.true)
 
 pub returns : goal.returns
 returns c =

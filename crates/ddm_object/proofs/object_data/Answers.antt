@@ -6,6 +6,8 @@ use mathlib.Core.Path.{◌≡◌, refl, sym, ap}
 use mathlib.Core.Bool.{false}
 use mathlib.Core.List.{List, []}
 use lib.ListN.{length, take, drop}
+use denote.Ref.{Bor}
+use Rattle.wire.specs.Parts.{start_at}
 use Rattle.ddm_object.proofs.ObjectRecords.{record_of, refused_of}
 use Rattle.ddm_object.proofs.DataLaws.{given_run, run_room}
 use Rattle.ddm_object.proofs.PartLaws.{data_beyond, data_refused, data_short, data_work, data_run}
@@ -17,8 +19,8 @@ use Rattle.ddm_object.proofs.object_data.Goals as goal
 none : (l : List ℕ) (a : ℕ) → take (a - a) (drop a l) ≡ []
 none l a = let z : a - a ≡ 0 = omega arith in ap (λ (n : ℕ). take n (drop a l)) z
 
-first : (l : List ℕ) (n : ℕ) → take (n - 0) l ≡ take n l
-first l n = let z : n - 0 ≡ n = omega arith in ap (λ (k : ℕ). take k l) z
+front : (work : Bor (List ℕ)) → work.ref_ptr ≡ start_at work 0
+front work = let z : work.ref_ptr.1 ≡ 0 + work.ref_ptr.1 = omega arith in ap (λ (k : ℕ). (work.ref_ptr.0, k)) z
 
 back : (l : List ℕ) (a n : ℕ) → take ((a + n) - a) (drop a l) ≡ take n (drop a l)
 back l a n = let z : (a + n) - a ≡ n = omega arith in ap (λ (k : ℕ). take k (drop a l)) z
@@ -33,29 +35,29 @@ returns-then-run-at c =
     let s = c.args in
     data_beyond s.run s.at s.work _ c.if-run-at.true (none s.run.now (length s.run.now)) refl
 
-pub returns-then-work-n : goal.returns-then-work-n
-returns-then-work-n c =
+pub returns-in_default : goal.returns-in_default
+returns-in_default c =
     let s = c.args in
-    data_short s.run s.at s.work _ _ (record_of _ _ _ (sym c.in-Object.ensures)) c.if-o.true c.if-work-n.true (none s.run.now s.at) refl
+    data_refused s.run s.at s.work _ _ c.if-run-at.false (refused_of _ _ _ (sym c.in_default.ensures)) (none s.run.now s.at) refl
+
+pub returns-then-work-o : goal.returns-then-work-o
+returns-then-work-o c =
+    let s = c.args in
+    data_short s.run s.at s.work _ _ (record_of _ _ _ (sym c.in-Ok.ensures)) c.if-o.true c.if-work-o.true (none s.run.now s.at) refl
 
 pub returns-then-o : goal.returns-then-o
 returns-then-o c =
     let s = c.args in
-    data_work s.run s.at s.work _ _ (record_of _ _ _ (sym c.in-Object.ensures)) c.if-o.true c.if-work-n.false (first s.work.now c.in-Object.o.data_len) refl
+    data_work s.run s.at s.work _ _ (record_of _ _ _ (sym c.in-Ok.ensures)) c.if-o.true c.if-work-o.false refl (front s.work)
 
 pub overflow_add-result : goal.overflow_add-result
-overflow_add-result c = omega (arith, in_run c.args.run.now c.args.work.now c.args.at c.in-Object.o c.if-run-at.false (sym c.in-Object.ensures) c.if-o.false)
+overflow_add-result c = omega (arith, in_run c.args.run.now c.args.work.now c.args.at c.in-Ok.o c.if-run-at.false (sym c.in-Ok.ensures) c.if-o.false)
 
-pub returns-in-Object : goal.returns-in-Object
-returns-in-Object c =
+pub slice_bounds-result-end-2 : goal.slice_bounds-result-end-2
+slice_bounds-result-end-2 c = in_run c.args.run.now c.args.work.now c.args.at c.in-Ok.o c.if-run-at.false (sym c.in-Ok.ensures) c.if-o.false
+
+pub returns : goal.returns
+returns c =
     let s = c.args in
-    let o = c.in-Object.o in
-    data_run s.run s.at s.work _ o (record_of _ _ _ (sym c.in-Object.ensures)) c.if-o.false c.if-run-at.false (back s.run.now o.data_at o.data_len) refl
-
-pub returns-in-Refused : goal.returns-in-Refused
-returns-in-Refused c =
-    let s = c.args in
-    data_refused s.run s.at s.work _ _ c.if-run-at.false (refused_of _ _ _ (sym c.in-Refused.ensures)) (none s.run.now s.at) refl
-
-pub slice_bounds-result-end-in-Object : goal.slice_bounds-result-end-in-Object
-slice_bounds-result-end-in-Object c = in_run c.args.run.now c.args.work.now c.args.at c.in-Object.o c.if-run-at.false (sym c.in-Object.ensures) c.if-o.false
+    let o = c.in-Ok.o in
+    data_run s.run s.at s.work _ o (record_of _ _ _ (sym c.in-Ok.ensures)) c.if-o.false c.if-run-at.false (back s.run.now o.data_at o.data_len) refl
