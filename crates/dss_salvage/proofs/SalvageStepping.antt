@@ -17,7 +17,7 @@ use Rattle.dss_frame.specs.Salvage.{entry, stop}
 use Rattle.dss_laws.proofs.Bounds.{OfWhole, is_whole, Six, walk_six}
 use Rattle.dss_laws.proofs.SalvageLaws.{salvaged_from, salvaged_short, salvaged_dead, salvaged_frame, salvaged_refused, salvaged_refused_end}
 use Rattle.dss_measure.specs.declared.FrameMeasure.{FrameMeasure}
-use Rattle.dss_measure.specs.declared.Walked.TheVariants.{Whole, Short, Dead}
+use Rattle.dss_measure.specs.declared.Walked.{Walked}
 use Rattle.dss_measure.specs.Measure.{measure_of, measured_of, measured_at}
 use Rattle.dss_measure.specs.inner.Walking.{walked_of, walked_at}
 use Rattle.dss_measure.proofs.Measures.{Measures, measures, measured_not}
@@ -28,40 +28,31 @@ use Rattle.dss_salvage.specs.inner.SalvageSteps.{step_on, step_of, step_at, over
 -- ---- what the walk and the measure make of a step
 
 module _ (s : List ℕ) (p : ℕ) (r : Refused) where
-  of_short : (w : Walk) → walked_of s p w ≡ Short → step_of s p w (refused r) ≡ End
-  of_short (whole gs) e = let z : ◌≡◌ {A = ℕ} 0 1 = cc in absurd (omega arith)
-  of_short short e = refl
-  of_short (dead q) e = refl
+  of_none : (w : Walk) (x : Refused) → walked_of s p w ≡ Err x → step_of s p w (refused r) ≡ End
+  of_none (whole gs) x e = let z : ◌≡◌ {A = ℕ} 0 1 = cc in absurd (omega arith)
+  of_none short x e = refl
+  of_none (dead q) x e = refl
 
-  of_dead : (w : Walk) (d : ℕ) → walked_of s p w ≡ Dead d → step_of s p w (refused r) ≡ End
-  of_dead (whole gs) d e = let z : ◌≡◌ {A = ℕ} 0 1 = cc in absurd (omega arith)
-  of_dead short d e = refl
-  of_dead (dead q) d e = refl
-
-  of_whole : (w : Walk) (e k n : ℕ) (x : Step) → walked_of s p w ≡ Whole e k n → ((gs : List Segment) → end_of p gs ≡ e → step_on s p gs (refused r) ≡ x) → step_of s p w (refused r) ≡ x
-  of_whole (whole gs) e k n x i h = h gs (let z : end_of p gs ≡ e = cc in z)
-  of_whole short e k n x i h = let z : ◌≡◌ {A = ℕ} 0 1 = cc in absurd (omega arith)
-  of_whole (dead q) e k n x i h = let z : ◌≡◌ {A = ℕ} 0 1 = cc in absurd (omega arith)
+  of_whole : (w : Walk) (m : Walked) (x : Step) → walked_of s p w ≡ Ok m → ((gs : List Segment) → end_of p gs ≡ m.end → step_on s p gs (refused r) ≡ x) → step_of s p w (refused r) ≡ x
+  of_whole (whole gs) m x i h = h gs (let z : end_of p gs ≡ m.end = cc in z)
+  of_whole short m x i h = let z : ◌≡◌ {A = ℕ} 0 1 = cc in absurd (omega arith)
+  of_whole (dead q) m x i h = let z : ◌≡◌ {A = ℕ} 0 1 = cc in absurd (omega arith)
 
   -- not whole
-  pub over_short : walked_at Salvage s p ≡ Short → over_at s p r ≡ End
+  pub over_none : (x : Refused) → walked_at Salvage s p ≡ Err x → over_at s p r ≡ End
   unfolding walked_at over_at
-  over_short e = of_short (frame_walk Salvage s p) e
+  over_none x e = of_none (frame_walk Salvage s p) x e
 
-  pub over_dead : (d : ℕ) → walked_at Salvage s p ≡ Dead d → over_at s p r ≡ End
-  unfolding walked_at over_at
-  over_dead d e = of_dead (frame_walk Salvage s p) d e
-
-  module _ (e k n : ℕ) (i : walked_at Salvage s p ≡ Whole e k n) (raw : ℕ) (l : raw ≡ be16 s p) where
+  module _ (m : Walked) (i : walked_at Salvage s p ≡ Ok m) (raw : ℕ) (l : raw ≡ be16 s p) where
     -- a length below 6
     pub over_last : raw < 6 → over_at s p r ≡ Last r
     unfolding walked_at over_at
-    over_last h = of_whole (frame_walk Salvage s p) e k n (Last r) i (λ gs j. pick_yes _ _ (lt-ltb (be16 s p) 6 (omega arith)))
+    over_last h = of_whole (frame_walk Salvage s p) m (Last r) i (λ gs j. pick_yes _ _ (lt-ltb (be16 s p) 6 (omega arith)))
 
     -- any other
-    pub over_on : 6 ≤ raw → over_at s p r ≡ Over r e
+    pub over_on : 6 ≤ raw → over_at s p r ≡ Over r m.end
     unfolding walked_at over_at
-    over_on h = of_whole (frame_walk Salvage s p) e k n (Over r e) i (λ gs j. pick_no _ _ (le-ltb (be16 s p) 6 (omega arith)) ∙ ap (λ (q : ℕ). Over r q) j)
+    over_on h = of_whole (frame_walk Salvage s p) m (Over r m.end) i (λ gs j. pick_no _ _ (le-ltb (be16 s p) 6 (omega arith)) ∙ ap (λ (q : ℕ). Over r q) j)
 
 module _ (s : List ℕ) (p : ℕ) where
   -- a frame that is read is whole

@@ -9,10 +9,11 @@ ghost use Rattle.dss_salvage.specs.inner.SalvageMeasure.{salvaging_of};
 use answer::Refused;
 use dss_frame::{DssFrame, Rules};
 use dss_head::DSS_HEADER_LEN;
-use dss_measure::{FrameMeasure, Measured, Walked};
+use dss_measure::FrameMeasure;
 
 // What an entry is: a frame's record, or a refusal, without payload, and where the refused frame stood: its first byte and the
 // byte after its last, equal where the walk ends at a length below six.
+// No Result, since the list goes on behind a refusal, which has a stretch besides: an entry is a line of a list.
 #[derive(Clone, Copy)]
 pub enum Entry {
     Frame(DssFrame),
@@ -29,20 +30,8 @@ pub struct SalvageEntry {
     pub entry: Entry,
 }
 
-// What a salvage reading comes to: how many entries stand in the row and how many bytes in the room, and the tail's place.
-// The one refusal is 9.
-#[derive(Clone, Copy)]
-pub enum Salvaged {
-    Done {
-        count: usize,
-        bytes: usize,
-        tail: usize,
-    },
-    Refused(Refused),
-}
-
 // One step of the walk: a frame; or a refused one, and where it is stepped over to; or a refused one that the walk ends at, its
-// length below 6; or the walk's end, with no entry.
+// length below 6; or the walk's end, with no entry. Four kinds, of which two go on and two end, so no Result and no Option.
 #[derive(Clone, Copy)]
 pub enum Step {
     Frame(FrameMeasure),
@@ -51,7 +40,7 @@ pub enum Step {
     End,
 }
 
-// A salvage reading before anything is taken: how many entries, how many bytes their payloads have, and the tail's place.
+// What a salvage reading comes to: how many entries, how many bytes their payloads have, and the tail's place.
 #[derive(Clone, Copy)]
 pub struct Salvaging {
     pub count: usize,
@@ -63,25 +52,14 @@ pub struct Salvaging {
 pub fn step_over(run: &[u8], at: usize, refused: Refused) -> Step
     ensures { result ≡ over_at run.now at refused }
 {
-    match dss_measure::walk_frame(Rules::Salvage, run, at) {
-        Walked::Short => {
-            return Step::End;
-        }
-        Walked::Dead(_) => {
-            return Step::End;
-        }
-        Walked::Whole {
-            end,
-            segments: _,
-            payload_len: _,
-        } => {
-            let seg_len = wire::u16_at(run, at) as usize;
-            if seg_len < DSS_HEADER_LEN {
-                return Step::Last(refused);
-            }
-            return Step::Over(refused, end);
-        }
+    let Ok(walked) = dss_measure::walk_frame(Rules::Salvage, run, at) else {
+        return Step::End;
+    };
+    let seg_len = usize::from(wire::u16_at(run, at));
+    if seg_len < DSS_HEADER_LEN {
+        return Step::Last(refused);
     }
+    Step::Over(refused, walked.end)
 }
 
 // The step of the walk at a place of a run.
@@ -89,46 +67,39 @@ pub fn step_at(run: &[u8], at: usize) -> Step
     ensures { result ≡ step_at run.now at }
 {
     match dss_measure::measure(Rules::Salvage, run, at) {
-        Measured::Frame(measure) => {
-            return Step::Frame(measure);
-        }
-        Measured::Refused(refused) => {
-            return step_over(run, at, refused);
-        }
+        Ok(measure) => Step::Frame(measure),
+        Err(refused) => step_over(run, at, refused),
     }
 }
 
-// All entries of a run.
+// All entries of a run: what the walk has come to so far, and its place for a tail.
 pub fn measure_salvage(run: &[u8]) -> Salvaging
     ensures { result ≡ salvaging_of run.now (salvaged run.now) }
 {
-    let mut at = 0;
-    let mut count = 0;
-    let mut bytes = 0;
+    let mut all = Salvaging {
+        count: 0,
+        bytes: 0,
+        tail: 0,
+    };
     loop {
-        match step_at(run, at) {
+        match step_at(run, all.tail) {
             Step::Frame(measure) => {
-                count += 1;
-                bytes += measure.payload_len;
-                at = measure.end;
+                all.count += 1;
+                all.bytes += measure.payload_len;
+                all.tail = measure.end;
             }
             Step::Over(_, next) => {
-                count += 1;
-                at = next;
+                all.count += 1;
+                all.tail = next;
             }
             Step::Last(_) => {
                 return Salvaging {
-                    count: count + 1,
-                    bytes,
-                    tail: at,
+                    count: all.count + 1,
+                    ..all
                 };
             }
             Step::End => {
-                return Salvaging {
-                    count,
-                    bytes,
-                    tail: at,
-                };
+                return all;
             }
         }
     }

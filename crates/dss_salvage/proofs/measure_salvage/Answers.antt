@@ -10,11 +10,11 @@ use Rattle.dss_salvage.proofs.measure_salvage.Goals as goal
 pub loop-measure-init : goal.loop-measure-init
 loop-measure-init c = record { few = omega arith; short = omega arith; comes_to = salvaging_start _ }
 
-pub overflow_add-count : goal.overflow_add-count
-overflow_add-count c = let w = (on_frame _ _ _ (sym c.in-Frame.ensures)).measured in omega (arith, w)
+pub overflow_add-all : goal.overflow_add-all
+overflow_add-all c = let w = (on_frame _ _ _ (sym c.in-Frame.ensures)).measured in omega (arith, w)
 
-pub overflow_add-bytes : goal.overflow_add-bytes
-overflow_add-bytes c = let w = (on_frame _ _ _ (sym c.in-Frame.ensures)).measured in omega (arith, w)
+pub overflow_add-all-in-Frame : goal.overflow_add-all-in-Frame
+overflow_add-all-in-Frame c = let w = (on_frame _ _ _ (sym c.in-Frame.ensures)).measured in omega (arith, w)
 
 pub loop-measure-smaller-in-Frame : goal.loop-measure-smaller-in-Frame
 loop-measure-smaller-in-Frame c = let w = (on_frame _ _ _ (sym c.in-Frame.ensures)).measured in omega (arith, w)
@@ -29,8 +29,8 @@ loop-measure-preserved-in-Frame c =
       comes_to = c.loop-measure.invariant.comes_to ∙ salvaging_frame _ _ _ _ _ f;
     }
 
-pub overflow_add-count-in-Over : goal.overflow_add-count-in-Over
-overflow_add-count-in-Over c = let w = on_over _ _ _ _ (sym c.in-Over.ensures) in omega (arith, w)
+pub overflow_add-all-in-Over : goal.overflow_add-all-in-Over
+overflow_add-all-in-Over c = let w = on_over _ _ _ _ (sym c.in-Over.ensures) in omega (arith, w)
 
 pub loop-measure-smaller : goal.loop-measure-smaller
 loop-measure-smaller c = let w = on_over _ _ _ _ (sym c.in-Over.ensures) in omega (arith, w)

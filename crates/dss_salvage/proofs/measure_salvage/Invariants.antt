@@ -12,10 +12,10 @@ use Rattle.dss_salvage.proofs.measure_salvage.Given as goal
 
 abbrev pub invariant-loop-measure : goal.invariant-loop-measure
 invariant-loop-measure l = record {
-  few : l.count ≤ l.at;
-  short : l.bytes ≤ l.at;
-  comes_to : salvaging_of l.run (salvaged l.run) ≡ adds_to l.count l.bytes (salvaging_of l.run (salvaged_from l.run l.at));
+  few : l.all.count ≤ l.all.tail;
+  short : l.all.bytes ≤ l.all.tail;
+  comes_to : salvaging_of l.run (salvaged l.run) ≡ adds_to l.all.count l.all.bytes (salvaging_of l.run (salvaged_from l.run l.all.tail));
 }
 
 abbrev pub decreases-loop-measure : goal.decreases-loop-measure
-decreases-loop-measure l = length l.run - l.at
+decreases-loop-measure l = length l.run - l.all.tail
