@@ -6,6 +6,13 @@ use mathlib.Core.Bool.{Bool}
 use mathlib.Core.List.{List}
 use contract.Lifetimes.{Lfts}
 use denote.Ref.{Bor, MutBor, at_last}
+use denote.RattleType.{RattleType}
+use denote.Param.Laws.{Laws}
+use mir.Syntax.{Dict}
+use Rattle.ddm_length.specs.declared.Payload.{Ghosts}
+use Rattle.ddm_length.proofs.u16_in.Reads as u16_in
+use Rattle.ddm_length.proofs.length_in.Reads as length_in
+use Rattle.ddm_length.proofs.measure_in.Reads as measure_in
 use Rattle.ddm_length.proofs.length_at.Reads as length_at
 use Rattle.ddm_length.proofs.parse_marshaled_length.Reads as parse_marshaled_length
 use Rattle.ddm_length.proofs.measure_at.Reads as measure_at
@@ -15,6 +22,21 @@ use Rattle.ddm_length.proofs.unmarked_len.Reads as unmarked_len
 use Rattle.ddm_length.proofs.strip_extended_ddm_continuation_markers.Reads as strip
 use Rattle.ddm_length.specs.declared.Marshaled.{Marshaled}
 use Rattle.answer.specs.declared.Refused.{Refused}
+
+-- ---- a payload's bytes and lengths, of each type of payload
+
+module _ (T : RattleType) (L : Laws T) (G : Ghosts T.Denot) (D : Dict) (κs : Lfts 2) (p : Bor T.Denot) (at : ℕ) where
+  pub u16_in_one : (r r' : ℕ) → u16_in.Post T L G D κs (p, (at, tt)) r (p, (at, tt)) → u16_in.Post T L G D κs (p, (at, tt)) r' (p, (at, tt)) → r ≡ r'
+  u16_in_one r r' p q = p ∙ sym q
+
+  module _ (place : ℕ) (r r' : Result Marshaled Refused) where
+    pub length_in_one : length_in.Post T L G D κs (p, (at, (place, tt))) r (p, (at, (place, tt)))
+        → length_in.Post T L G D κs (p, (at, (place, tt))) r' (p, (at, (place, tt))) → r ≡ r'
+    length_in_one p q = p ∙ sym q
+
+    pub measure_in_one : measure_in.Post T L G D κs (p, (at, (place, tt))) r (p, (at, (place, tt)))
+        → measure_in.Post T L G D κs (p, (at, (place, tt))) r' (p, (at, (place, tt))) → r ≡ r'
+    measure_in_one p q = p ∙ sym q
 
 -- ---- lengths
 

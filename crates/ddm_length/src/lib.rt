@@ -1,8 +1,8 @@
 // The length of a DDM object or parameter, and the removal of continuation markers: document 01, "DDM".
 #![tactic(auto)]
 
-ghost use Rattle.std.specs.Prelude.{◌≡◌, true, ◌≤◌, ◌<◌, length};
-ghost use Rattle.wire.specs.Bytes.{laid};
+ghost use Rattle.std.specs.Prelude.{◌≡◌, true, ℕ, ◌+◌, ◌^◌, ◌≤◌, ◌<◌, List, length, take, drop, get_or};
+ghost use Rattle.wire.specs.Bytes.{be16, laid};
 ghost use Rattle.answer.specs.Rooms.{Lays};
 ghost use Rattle.ddm_length.specs.Lengths.{extended, marshaled, measured};
 ghost use Rattle.ddm_length.specs.Markers.{past_marker, has_markers, unmarked};
@@ -26,30 +26,71 @@ pub struct Marshaled {
     pub header: usize,
 }
 
-// The number that all bytes spell; none where it exceeds 2^64 - 1.
-pub(crate) fn number_of(bytes: &[u8]) -> Option<usize>
-    ensures { result ≡ spelled_number bytes.now }
+// Bytes where they lie: in one run, or in the pieces of one. Beyond the last each is 0.
+pub trait Payload {
+    ghost bytes: { Self → List ℕ };
+
+    fn len(&self) -> usize
+        ensures { result ≡ length (bytes self.now) };
+
+    fn byte(&self, at: usize) -> u8
+        ensures { result ≡ get_or (bytes self.now) at 0 };
+}
+
+impl<'a> Payload for &'a [u8] {
+    ghost bytes = { λ s. s.now };
+
+    fn len(&self) -> usize {
+        (**self).len()
+    }
+
+    fn byte(&self, at: usize) -> u8 {
+        wire::byte_at(self, at)
+    }
+}
+
+// Two bytes of a payload as a number; one beyond the last is 0.
+pub fn u16_in<P: Payload>(payload: &P, at: usize) -> u16
+    ensures { result ≡ be16 (P.bytes payload.now) at }
+{
+    if payload.len() <= at {
+        return 0;
+    }
+    wire::u16_of(payload.byte(at), payload.byte(at + 1))
+}
+
+// The number that so many bytes from one on spell; none where it exceeds 2^64 - 1.
+pub(crate) fn number_in<P: Payload>(payload: &P, from: usize, len: usize) -> Option<usize>
+    requires inside { from + len ≤ length (P.bytes payload.now) }
+    requires counted { from + len < 2 ^ 64 }
+    ensures { result ≡ spelled_number (take len (drop from (P.bytes payload.now))) }
 {
     let mut n: usize = 0;
-    for &byte in bytes {
+    for i in 0..len {
+        let byte = payload.byte(from + i);
         n = n.checked_mul(256)?.checked_add(usize::from(byte))?;
     }
     Some(n)
 }
 
-// The length in an extended header of so many bytes: 6, 4, 8.
-pub(crate) fn extended_at(bytes: &[u8], place: usize, header: u16) -> Result<Marshaled, Refused>
-    ensures { result ≡ extended bytes.now place header }
+// The length in an extended header of so many bytes, of an object at a payload byte: 6, 4, 8.
+pub(crate) fn extended_in<P: Payload>(
+    payload: &P,
+    at: usize,
+    place: usize,
+    header: u16,
+) -> Result<Marshaled, Refused>
+    ensures { result ≡ extended (drop at (P.bytes payload.now)) place header }
 {
     if header < 4 {
         return Err(Refusal::HeaderTooShort(header).at(place));
     }
     let expected = usize::from(header);
-    let actual = bytes.len();
+    let actual = payload.len().saturating_sub(at);
     if actual < expected {
         return Err(Refusal::BufferTooShort { expected, actual }.at(place));
     }
-    match number_of(&bytes[DDM_HEADER_LEN..expected]) {
+    match number_in(payload, at + DDM_HEADER_LEN, expected - DDM_HEADER_LEN) {
         Some(n) if n <= usize::MAX - expected => Ok(Marshaled {
             total: expected + n,
             header: expected,
@@ -58,12 +99,12 @@ pub(crate) fn extended_at(bytes: &[u8], place: usize, header: u16) -> Result<Mar
     }
 }
 
-// What the length field of an object at a place says; `bytes` is all that stands from the place on: 4, 6, 4, 8.
-pub fn length_at(bytes: &[u8], place: usize) -> Result<Marshaled, Refused>
-    ensures { result ≡ marshaled bytes.now place }
+// What the length field of an object at a payload byte says; a refusal has the place that is given: 4, 6, 4, 8.
+pub fn length_in<P: Payload>(payload: &P, at: usize, place: usize) -> Result<Marshaled, Refused>
+    ensures { result ≡ marshaled (drop at (P.bytes payload.now)) place }
 {
     let header = DDM_HEADER_LEN;
-    let actual = bytes.len();
+    let actual = payload.len().saturating_sub(at);
     if actual < header {
         return Err(Refusal::BufferTooShort {
             expected: header,
@@ -71,7 +112,7 @@ pub fn length_at(bytes: &[u8], place: usize) -> Result<Marshaled, Refused>
         }
         .at(place));
     }
-    let raw = wire::u16_at(bytes, 0);
+    let raw = u16_in(payload, at);
     if raw == 0x8004 {
         return Ok(Marshaled {
             total: actual,
@@ -84,7 +125,35 @@ pub fn length_at(bytes: &[u8], place: usize) -> Result<Marshaled, Refused>
             header,
         });
     }
-    extended_at(bytes, place, raw - 0x8000)
+    extended_in(payload, at, place, raw - 0x8000)
+}
+
+// What an object at a payload byte takes, once its length is known and fits: then 5, then 4.
+pub fn measure_in<P: Payload>(payload: &P, at: usize, place: usize) -> Result<Marshaled, Refused>
+    ensures { result ≡ measured (drop at (P.bytes payload.now)) place }
+{
+    let Marshaled { total, header } = length_in(payload, at, place)?;
+    let actual = payload.len().saturating_sub(at);
+    if total < header {
+        let length = total as u16;
+        let code_point = u16_in(payload, at + 2);
+        return Err(Refusal::InlineTooShort { length, code_point }.at(place));
+    }
+    if actual < total {
+        return Err(Refusal::BufferTooShort {
+            expected: total,
+            actual,
+        }
+        .at(place));
+    }
+    Ok(Marshaled { total, header })
+}
+
+// What the length field of an object at a place says; `bytes` is all that stands from the place on: 4, 6, 4, 8.
+pub fn length_at(bytes: &[u8], place: usize) -> Result<Marshaled, Refused>
+    ensures { result ≡ marshaled bytes.now place }
+{
+    length_in(&bytes, 0, place)
 }
 
 // The same, of an object that stands at the first byte.
@@ -98,20 +167,7 @@ pub fn parse_marshaled_length(bytes: &[u8]) -> Result<Marshaled, Refused>
 pub fn measure_at(bytes: &[u8], place: usize) -> Result<Marshaled, Refused>
     ensures { result ≡ measured bytes.now place }
 {
-    let Marshaled { total, header } = length_at(bytes, place)?;
-    if total < header {
-        let length = total as u16;
-        let code_point = wire::u16_at(bytes, 2);
-        return Err(Refusal::InlineTooShort { length, code_point }.at(place));
-    }
-    if bytes.len() < total {
-        return Err(Refusal::BufferTooShort {
-            expected: total,
-            actual: bytes.len(),
-        }
-        .at(place));
-    }
-    Ok(Marshaled { total, header })
+    measure_in(&bytes, 0, place)
 }
 
 // The same, of an object that stands at the first byte.
