@@ -1,3 +1,2 @@
-pub mod Sending
 pub mod Unique
 pub mod Cases

@@ -12,23 +12,23 @@ ghost use Rattle.gateway_words.specs.AnswerWords.{Answered, LaysInWords};
 ghost use Rattle.gateway_writer.specs.WriterWords.{writer_of, frame_of, yes, wrote_words, mark_first, Sends};
 
 use answer::Refused;
-use dss_head::{DssFlags, DssType, TypeFound};
-use dss_writer::{DssWriter, Wrote};
+use dss_head::{DssFlags, DssType};
+use dss_writer::DssWriter;
 use gateway_words::{put_done, put_laid, put_refusal};
 
 // The writer after a frame, as its correlation and its fill mark, or why nothing was written.
-pub(crate) fn put_wrote(words: &mut [u64], wrote: Wrote) -> u8
+pub(crate) fn put_wrote(words: &mut [u64], wrote: Result<DssWriter, Refused>) -> u8
     ensures { Answered (wrote_words wrote) words.old result words.new }
 {
     match wrote {
-        Wrote::Done(writer) => put_done(
+        Ok(writer) => put_done(
             words,
-            writer.correlation_id as u64,
+            u64::from(writer.correlation_id),
             writer.fill as u64,
             0,
             0,
         ),
-        Wrote::Refused(refused) => put_refusal(words, refused),
+        Err(refused) => put_refusal(words, refused),
     }
 }
 
@@ -37,9 +37,36 @@ pub(crate) fn mark_first(fill: usize, size: usize, refused: Refused) -> Refused
     ensures { result ≡ mark_first fill size refused }
 {
     if size < fill {
-        return Refused::out_of_bounds(fill, size);
+        Refused::out_of_bounds(fill, size)
+    } else {
+        refused
     }
-    refused
+}
+
+// Writes a frame of a type that was found, or lays down why there is none. Of the flags, continue on error is never set.
+pub(crate) fn send(
+    writer: DssWriter,
+    found: Result<DssType, Refused>,
+    flags: DssFlags,
+    payload: &[u8],
+    room: &mut [u8],
+    words: &mut [u64],
+) -> u8
+    ensures { Sends found writer (frame_of writer.correlation_id flags.chained flags.same_correlation payload.now) room.old words.old result room.new words.new }
+{
+    let wrote = match found {
+        Ok(dss_type) => {
+            writer.write_dss_full(
+                dss_type,
+                flags.chained,
+                flags.same_correlation,
+                payload,
+                room,
+            )
+        }
+        Err(refused) => Err(mark_first(writer.fill, room.len(), refused)),
+    };
+    put_wrote(words, wrote)
 }
 
 // The bytes that a frame takes, of its payload's length; 2^64 - 1 where they are more.
@@ -52,8 +79,7 @@ pub fn lattrugone_frame_size(payload_len: usize) -> usize
 pub fn lattrugone_next_correlation_id(id: u16) -> u16
     ensures { result ≡ (next_correlation (fresh_writer id)).correlation_id }
 {
-    let writer = DssWriter::new(id).next_correlation_id();
-    writer.correlation_id
+    DssWriter::new(id).next_correlation_id().correlation_id
 }
 
 // ---- a frame from the fill mark on. The result: the correlation, and the fill mark behind the frame.
@@ -70,18 +96,19 @@ pub fn lattrugone_write_dss_full(
 ) -> u8
     ensures { Sends (type_at dss_type 0) (writer_of correlation_id fill) (frame_of correlation_id (bit 0x40 flags) (bit 0x10 flags) payload.now) room.old words.old result room.new words.new }
 {
-    match DssType::from_byte(dss_type) {
-        TypeFound::Is(is) => {
-            let has = DssFlags::from_byte(flags);
-            let writer = DssWriter {
-                correlation_id,
-                fill,
-            };
-            let wrote = writer.write_dss_full(is, has.chained, has.same_correlation, payload, room);
-            put_wrote(words, wrote)
-        }
-        TypeFound::Refused(refused) => put_refusal(words, mark_first(fill, room.len(), refused)),
-    }
+    let writer = DssWriter {
+        correlation_id,
+        fill,
+    };
+    let found = DssType::from_byte(dss_type);
+    send(
+        writer,
+        found,
+        DssFlags::from_byte(flags),
+        payload,
+        room,
+        words,
+    )
 }
 
 pub fn lattrugone_write_dss(
@@ -95,17 +122,16 @@ pub fn lattrugone_write_dss(
 ) -> u8
     ensures { Sends (type_at dss_type 0) (writer_of correlation_id fill) (frame_of correlation_id (yes chained) false payload.now) room.old words.old result room.new words.new }
 {
-    match DssType::from_byte(dss_type) {
-        TypeFound::Is(is) => {
-            let writer = DssWriter {
-                correlation_id,
-                fill,
-            };
-            let wrote = writer.write_dss(is, chained > 0, payload, room);
-            put_wrote(words, wrote)
-        }
-        TypeFound::Refused(refused) => put_refusal(words, mark_first(fill, room.len(), refused)),
-    }
+    let writer = DssWriter {
+        correlation_id,
+        fill,
+    };
+    let found = DssType::from_byte(dss_type);
+    let flags = DssFlags {
+        chained: chained > 0,
+        ..DssFlags::none()
+    };
+    send(writer, found, flags, payload, room, words)
 }
 
 pub fn lattrugone_write_request(
@@ -122,8 +148,11 @@ pub fn lattrugone_write_request(
         correlation_id,
         fill,
     };
-    let wrote = writer.write_request(payload, chained > 0, room);
-    put_wrote(words, wrote)
+    let flags = DssFlags {
+        chained: chained > 0,
+        ..DssFlags::none()
+    };
+    send(writer, Ok(DssType::Request), flags, payload, room, words)
 }
 
 pub fn lattrugone_write_request_no_reply(
@@ -140,8 +169,11 @@ pub fn lattrugone_write_request_no_reply(
         correlation_id,
         fill,
     };
-    let wrote = writer.write_request_no_reply(payload, chained > 0, room);
-    put_wrote(words, wrote)
+    let flags = DssFlags {
+        chained: chained > 0,
+        ..DssFlags::none()
+    };
+    send(writer, Ok(DssType::NoReply), flags, payload, room, words)
 }
 
 pub fn lattrugone_write_object(
@@ -158,8 +190,11 @@ pub fn lattrugone_write_object(
         correlation_id,
         fill,
     };
-    let wrote = writer.write_object(payload, chained > 0, room);
-    put_wrote(words, wrote)
+    let flags = DssFlags {
+        chained: chained > 0,
+        ..DssFlags::none()
+    };
+    send(writer, Ok(DssType::Object), flags, payload, room, words)
 }
 
 pub fn lattrugone_write_object_same_corr(
@@ -176,8 +211,12 @@ pub fn lattrugone_write_object_same_corr(
         correlation_id,
         fill,
     };
-    let wrote = writer.write_object_same_corr(payload, chained > 0, room);
-    put_wrote(words, wrote)
+    let flags = DssFlags {
+        chained: chained > 0,
+        same_correlation: true,
+        ..DssFlags::none()
+    };
+    send(writer, Ok(DssType::Object), flags, payload, room, words)
 }
 
 pub fn lattrugone_write_request_next_same_corr(
@@ -194,8 +233,12 @@ pub fn lattrugone_write_request_next_same_corr(
         correlation_id,
         fill,
     };
-    let wrote = writer.write_request_next_same_corr(payload, chained > 0, room);
-    put_wrote(words, wrote)
+    let flags = DssFlags {
+        chained: chained > 0,
+        same_correlation: true,
+        ..DssFlags::none()
+    };
+    send(writer, Ok(DssType::Request), flags, payload, room, words)
 }
 
 // ---- a frame at the room's first byte. The result: how many bytes were laid down.

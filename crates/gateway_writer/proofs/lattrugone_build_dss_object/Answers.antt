@@ -1,6 +1,0 @@
--- `gateway_writer::lattrugone_build_dss_object` meets its contract: what was built, and the words that say so.
-use Rattle.gateway_writer.proofs.Sending.{builds}
-use Rattle.gateway_writer.proofs.lattrugone_build_dss_object.Goals as goal
-
-pub returns : goal.returns
-returns c = builds c.build_dss_object-laid.ensures c.put_laid.ensures
