@@ -2,7 +2,9 @@
 use Rattle.std.specs.Prelude.{Option, Some, None}
 use Prim.Native.Nat.{ℕ, zero, suc, ◌+◌, ◌-◌, ◌≤◌}
 use native.Mathlib.Omega.{arith}
-use mathlib.Core.Path.{◌≡◌, refl, sym, ap, ◌∙◌}
+use mathlib.Core.Path.{◌≡◌, refl, sym, ap, ◌∙◌, subst}
+use mathlib.Core.Bool.{Bool, true, false}
+use Rattle.wire.specs.Bytes.{pick}
 use mathlib.Core.List.{List, [], ◌∷◌}
 use lib.Dec.{eqb}
 use lib.ListN.{length}
@@ -22,7 +24,9 @@ use Rattle.dss_measure.specs.Measure.{measured_record}
 use Rattle.dss_frame.specs.declared.RowPlace.{RowPlace}
 use Rattle.dss_laws.proofs.Thin.{Thin, read_thin}
 use Rattle.dss_measure.proofs.Measures.{Measures}
-use Rattle.dss_row.specs.inner.FrameRows.{found_of, record_at, one_more, records_from}
+use Rattle.dss_row.specs.inner.FrameRows.{found_of, record_at, records_from}
+use Rattle.dss_row.specs.inner.RowRecords.{one_more, PlaceKept}
+use Rattle.dss_row.proofs.RowRecordsLaws.{laid_step, laid_full}
 
 -- ---- one record
 
@@ -45,29 +49,32 @@ module _ (s : List ℕ) (x : RowPlace) where
       w.same
 
 -- a place behind a record lies no further into the room than into the run, if that before it does
-pub found_low : (s : List ℕ) (x : RowPlace) (r : DssFrame) (next : RowPlace) → x.payload_at ≤ x.at → Some (r, next) ≡ record_at s x → next.payload_at ≤ next.at
+pub place_kept : (s : List ℕ) (x : RowPlace) → x.payload_at ≤ x.at → PlaceKept (record_at s x)
 unfolding record_at
-found_low s x r next h e =
-    picked (eqb x.left 0) (sym e) (λ t z. let y : ◌≡◌ {A = ℕ} 0 1 = cc in absurd (omega arith)) (λ t z. of_read (read_at Reader s x.at) (read_thin Reader s x.at) z)
+place_kept s x h = of_test (eqb x.left 0)
   where
-    of_read : (a : Read) → OfFrame (λ (f : Frame). Thin s x.at f.segments) a → found_of s x a ≡ Some (r, next) → next.payload_at ≤ next.at
-    of_read a (is_frame f k) z =
-        let i : x.payload_at + length (payload_of s f.segments) ≡ next.payload_at = cc in
-        let j : end_of x.at f.segments ≡ next.at = cc in
-        omega arith
-    of_read a (is_refused w) z = let y : ◌≡◌ {A = ℕ} 0 1 = cc in absurd (omega arith)
+    of_read : (a : Read) → OfFrame (λ (f : Frame). Thin s x.at f.segments) a → PlaceKept (found_of s x a)
+    of_read a (is_frame f k) = omega arith
+    of_read a (is_refused w) = tt
+
+    of_test : (b : Bool) → PlaceKept (pick b None (found_of s x (read_at Reader s x.at)))
+    of_test true = tt
+    of_test false = of_read (read_at Reader s x.at) (read_thin Reader s x.at)
+
+pub found_low : (s : List ℕ) (x : RowPlace) (r : DssFrame) (next : RowPlace) → x.payload_at ≤ x.at → Some (r, next) ≡ record_at s x → next.payload_at ≤ next.at
+found_low s x r next h e = subst PlaceKept (sym e) (place_kept s x h)
 
 -- ---- a row of them
 
 -- what is found first comes first
 pub records_step : (n : ℕ) (s : List ℕ) (x : RowPlace) (f : Option (DssFrame × RowPlace)) → f ≡ record_at s x → records_from (suc n) s x ≡ one_more f (records_from n s)
 unfolding records_from
-records_step n s x f e = ap (λ (g : Option (DssFrame × RowPlace)). one_more g (λ next. records_from n s next)) (sym e)
+records_step n s x f e = laid_step (record_at s) n x f e
 
 -- a row with no place left
 pub records_full : (s : List ℕ) (x : RowPlace) → records_from 0 s x ≡ []
 unfolding records_from
-records_full s x = refl
+records_full s x = laid_full (record_at s) x
 
 -- none are to come
 pub records_none : (n : ℕ) (s : List ℕ) (x : RowPlace) → x.left ≡ 0 → records_from n s x ≡ []

@@ -1,6 +1,6 @@
 -- The records of a run's frames, from a place on: document 01, "Reading", "Frames land in a lent row of frame records, payloads end
 -- to end in a lent room".
-use Rattle.std.specs.Prelude.{ℕ, zero, suc, ◌+◌, ◌-◌, List, [], ◌∷◌, eqb, length, Option, Some, None}
+use Rattle.std.specs.Prelude.{ℕ, ◌+◌, ◌-◌, List, eqb, length, Option, Some, None}
 use Rattle.wire.specs.Bytes.{pick}
 use Rattle.dss_frame.specs.Segments.{payload_of, end_of}
 use Rattle.dss_frame.specs.Reading.{Read, frame, refused, read_at}
@@ -8,6 +8,7 @@ use Rattle.dss_frame.specs.FrameRecords.{frame_record}
 use Rattle.dss_frame.specs.declared.DssFrame.{DssFrame}
 use Rattle.dss_frame.specs.declared.Rules.TheVariants.{Reader}
 use Rattle.dss_frame.specs.declared.RowPlace.{RowPlace}
+use Rattle.dss_row.specs.inner.RowRecords.{laid_from}
 
 -- a frame's record, and where the next one is
 abbrev pub found_of : List ℕ → RowPlace → Read → Option (DssFrame × RowPlace)
@@ -20,12 +21,7 @@ unfoldable pub record_at : List ℕ → RowPlace → Option (DssFrame × RowPlac
 unfolding payload_of end_of read_at
 record_at s x = pick (eqb x.left 0) None (found_of s x (read_at Reader s x.at))
 
-abbrev pub one_more : Option (DssFrame × RowPlace) → (RowPlace → List DssFrame) → List DssFrame
-one_more (Some (r, next)) more = r ∷ more next
-one_more None more = []
-
 -- the records from a place on, at most n of them
 unfoldable pub records_from : ℕ → List ℕ → RowPlace → List DssFrame
-unfolding record_at
-records_from zero s x = []
-records_from (suc n) s x = one_more (record_at s x) (λ next. records_from n s next)
+unfolding record_at laid_from
+records_from n s x = laid_from (record_at s) n x
