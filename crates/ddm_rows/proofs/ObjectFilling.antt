@@ -2,9 +2,9 @@
 use Rattle.std.specs.Prelude.{Result, Ok, Err}
 use Prim.Native.Nat.{ℕ, zero, suc, ◌+◌, ◌<◌, ◌≤◌}
 use native.Mathlib.Omega.{arith}
-use mathlib.Core.Path.{◌≡◌, refl, sym, ◌∙◌, ap}
+use mathlib.Core.Path.{◌≡◌, refl, sym, ◌∙◌, ap, ap₂}
 use mathlib.Core.List.{List, [], ◌∷◌, ◌++◌, append_assoc, append-nil}
-use lib.ListN.{length, set, drop, length-append}
+use lib.ListN.{length, set, take, drop, length-append, take-append-drop}
 use Rattle.answer.specs.declared.Refused.{Refused}
 use Rattle.ddm_object.specs.ObjectCalls.{param_step_at}
 use Rattle.ddm_object.specs.declared.DdmObject.{DdmObject}
@@ -40,23 +40,37 @@ pub record FillingObjects (s : List ℕ) (n : ℕ) (ys : List DdmObject) (i at :
 pub filling_start : (s : List ℕ) (n : ℕ) (ys : List DdmObject) → FillingObjects s n ys 0 0 ys
 filling_start s n ys = record { done = []; more = n; few = omega arith; many = refl; holds = refl; recs = refl }
 
-module _ (s : List ℕ) (n : ℕ) (ys : List DdmObject) (i at : ℕ) (row : List DdmObject) (k : FillingObjects s n ys i at row) where
+-- what is left of a part, and what stands behind the part
+behind : (i n : ℕ) (ys : List DdmObject) → i ≤ n → drop i (take n ys) ++ drop n ys ≡ drop i ys
+behind zero n ys h = take-append-drop n ys
+behind (suc i) zero ys h = absurd (omega arith)
+behind (suc i) (suc n) [] h = refl
+behind (suc i) (suc n) (y ∷ ys) h = behind i n ys (omega arith)
+
+-- the part of a row that is filled, and behind it what stood there
+module _ (s : List ℕ) (n : ℕ) (ys : List DdmObject) (i at : ℕ) (row : List DdmObject) (k : FillingObjects s n (take n ys) i at row) where
   -- the records are those stored, once no more come
-  ended : recs_from k.more s at ≡ [] → RowFilled s n ys i row
+  ended : recs_from k.more s at ≡ [] → RowFilled s n ys (row ++ drop n ys)
   ended e =
       let all : recs_from n s 0 ≡ k.done = k.recs ∙ ap (λ (l : List DdmObject). k.done ++ l) e ∙ append-nil k.done in
-      record { count_is = sym k.many ∙ sym (ap length all); row_is = k.holds ∙ ap (λ (l : List DdmObject). l ++ drop i ys) (sym all) }
+      let h : i ≤ n = omega (arith, k.few) in
+      record {
+        row_is = ap (λ (l : List DdmObject). l ++ drop n ys) k.holds ∙ append_assoc k.done (drop i (take n ys)) (drop n ys)
+            ∙ ap₂ (λ (l m : List DdmObject). l ++ m) (sym all) (behind i n ys h)
+            ∙ ap (λ (m : ℕ). recs_from n s 0 ++ drop m ys) (sym k.many ∙ sym (ap length all));
+      }
 
-  pub filling_full : n ≤ i → RowFilled s n ys i row
+  pub filling_full : n ≤ i → RowFilled s n ys (row ++ drop n ys)
   filling_full h = let z : k.more ≡ 0 = omega (arith, k.few) in ended (ap (λ (m : ℕ). recs_from m s at) z ∙ none s at)
 
-  pub filling_stops : (r : Refused) → param_step_at s at ≡ Err r → RowFilled s n ys i row
+  pub filling_stops : (r : Refused) → param_step_at s at ≡ Err r → RowFilled s n ys (row ++ drop n ys)
   filling_stops r e = ended (go k.more)
     where
       go : (m : ℕ) → recs_from m s at ≡ []
       go zero = none s at
       go (suc m) = one_more m s at (Err r) e
 
+module _ (s : List ℕ) (n : ℕ) (ys : List DdmObject) (i at : ℕ) (row : List DdmObject) (k : FillingObjects s n ys i at row) where
   pub filling_step : (r : DdmObject) (next : ℕ) → n ≤ length ys → i < n → param_step_at s at ≡ Ok (r, next) → FillingObjects s n ys (i + 1) next (set row i r)
   filling_step r next room h e = go k.more refl
     where

@@ -133,7 +133,7 @@ module _ (s : List ℕ) (at count work : ℕ) (w : WalkingParams s at count work
 -- ---- what the walk comes to
 
 pub walking_end : (s : List ℕ) (at count work : ℕ) (r : Refused) → WalkingParams s at count work → param_step_at s at ≡ Err r
-    → WalkedParams s (record { count = count; work = work; end = at })
+    → WalkedParams s (record { found = objects_found count work; end = at })
 walking_end s at count work r w e =
     let z : (x : Refused) × (parsed (drop at s) at ≡ refused x) = no_step s at r w.within e in
     let m : parameters s ≡ w.met = w.rest ∙ ap (λ (l : List Object). w.met ++ l) (parameters_stop (drop at s) at z.0 z.1) ∙ append-nil w.met in
@@ -181,8 +181,8 @@ objects_parameters s os e = objects_fuel (suc (length s)) s 0 os (omega arith) e
 
 -- what is measured, by where the walk stopped
 module _ (s : List ℕ) (w : Extent) (k : WalkedParams s w) where
-  pub measured_listed : length s < w.end + 4 → measured_objects s (all_objects s) ≡ Ok (objects_found w.count w.work)
-  measured_listed h = ap (measured_objects s) (all_listed s w k h) ∙ ap₂ Ok (objects_found (sym k.count_is) (sym k.work_is))
+  pub measured_listed : length s < w.end + 4 → measured_objects s (all_objects s) ≡ Ok w.found
+  measured_listed h = ap (measured_objects s) (all_listed s w k h) ∙ ap₂ (λ (x y : ℕ). Ok (objects_found x y)) (sym k.count_is) (sym k.work_is)
 
   pub measured_broken : (r : Refused) → w.end + 4 ≤ length s → measured (drop w.end s) w.end ≡ Err r → measured_objects s (all_objects s) ≡ Err r
   unfolding parsed

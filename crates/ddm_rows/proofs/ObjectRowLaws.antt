@@ -3,34 +3,30 @@
 use Rattle.std.specs.Prelude.{Result, Ok, Err}
 use Prim.Native.Nat.{ℕ, ◌+◌, ◌≤◌, ◌<◌}
 use native.Mathlib.Omega.{arith}
-use mathlib.Core.Path.{◌≡◌, refl, sym, ◌∙◌, ap, ap₂}
+use mathlib.Core.Path.{◌≡◌, refl, sym, ◌∙◌, ap, ap₂, subst}
 use mathlib.Core.Bool.{Bool, true, false}
 use mathlib.Core.List.{List, [], ◌∷◌, ◌++◌}
-use borrow.Author.Tests.{le-leb, lt-leb, leb-true}
+use borrow.Author.Tests.{le-leb, lt-leb}
 use lib.Dec.{leb}
 use lib.ListN.{length, drop}
 use Rattle.wire.specs.Bytes.{and, splice, laid, landed}
-use Rattle.wire.proofs.WireLaws.{by, and_both, and_split, and_no, pick_by, pick_yes, pick_no}
+use Rattle.wire.proofs.WireLaws.{picked, and_both, and_no, pick_yes, pick_no}
 use Rattle.wire.proofs.Splicing.{laid_fits, splice_none}
 use Rattle.answer.specs.Rooms.{no_room}
 use Rattle.answer.specs.declared.Refused.{Refused}
-use Rattle.ddm_object.specs.Objects.{Object, Parsed, object, refused, AllParsed, objects, refused_all, parsed, parameters}
+use Rattle.ddm_object.specs.Objects.{Object, Parsed, object, refused, AllParsed, objects, refused_all, parsed, all_objects, parameters}
 use Rattle.ddm_object.specs.ObjectCalls.{object_record}
 use Rattle.ddm_object.proofs.FindingParams.{step_is, params_here}
 use Rattle.ddm_object.proofs.ParamWalks.{parameters_stop}
 use Rattle.ddm_object.specs.declared.DdmObject.{DdmObject}
-use Rattle.ddm_rows.specs.ListCalls.{works_of, object_records, objects_fit, given_list, listed, measured_objects}
+use Rattle.ddm_rows.specs.ListCalls.{works_of, object_records, objects_fit, given_list, listed, Lists, ParsesObjects, ListsParameters, measured_objects}
 use Rattle.ddm_rows.proofs.ObjectLists.{objects_parameters}
-use Rattle.ddm_rows.specs.ObjectRows.{walked_as, count_of, TakesWork}
-use Rattle.ddm_rows.specs.inner.RowsFilled.{one_more_object, recs_from, RowFilled, FillsRow}
+use Rattle.ddm_rows.specs.ObjectRows.{TakesWork}
+use Rattle.ddm_rows.specs.inner.RowsFilled.{one_more_object, recs_from, RowFilled}
 use Rattle.ddm_rows.specs.declared.ObjectsFound.{ObjectsFound}
 use Rattle.ddm_rows.specs.ListCalls.{objects_found}
 
 -- ---- the work area
-
-pub walked_parameters : (whole : Bool) (s : List ℕ) (os : List Object) → walked_as whole s ≡ objects os → parameters s ≡ os
-walked_parameters true s os e = objects_parameters s os e
-walked_parameters false s os e = cc
 
 length_zero : (l : List ℕ) → length l ≡ 0 → l ≡ []
 length_zero [] e = refl
@@ -48,19 +44,17 @@ takes_refused s (refused_all y) work rows r e =
       work_is = sym (pick_yes _ _ (and_both (leb 0 (length work)) (leb 0 rows) (le-leb 0 (length work) (omega arith)) (le-leb 0 rows (omega arith))) ∙ none_needed work);
     }
 
--- what was measured of objects is of the parameters
-pub measured_walked : (whole : Bool) (s : List ℕ) (n m : ℕ) → measured_objects s (walked_as whole s) ≡ Ok (objects_found n m)
-    → (walked_as whole s ≡ objects (parameters s)) × (n ≡ length (parameters s)) × (m ≡ length (works_of s 0 (parameters s)))
-measured_walked whole s n m e = go (walked_as whole s) refl e
+-- where something was measured of all objects, they are the parameters
+pub measured_all : (s : List ℕ) (f : ObjectsFound) → measured_objects s (all_objects s) ≡ Ok f → all_objects s ≡ objects (parameters s)
+measured_all s f e = go (all_objects s) refl e
   where
-    go : (x : AllParsed) → walked_as whole s ≡ x → measured_objects s x ≡ Ok (objects_found n m)
-        → (walked_as whole s ≡ objects (parameters s)) × (n ≡ length (parameters s)) × (m ≡ length (works_of s 0 (parameters s)))
-    go (objects os) q r =
-        let p : parameters s ≡ os = walked_parameters whole s os q in
-        let a : n ≡ length os = cc in
-        let b : m ≡ length (works_of s 0 os) = cc in
-        (q ∙ ap objects (sym p), a ∙ ap length (sym p), b ∙ ap (λ (l : List Object). length (works_of s 0 l)) (sym p))
+    go : (x : AllParsed) → all_objects s ≡ x → measured_objects s x ≡ Ok f → all_objects s ≡ objects (parameters s)
+    go (objects os) q r = q ∙ ap objects (sym (objects_parameters s os q))
     go (refused_all y) q r = absurd (let z : ◌≡◌ {A = ℕ} 0 1 = cc in omega arith)
+
+-- what was measured of the parameters
+pub measured_count : (s : List ℕ) (f : ObjectsFound) → Ok f ≡ measured_objects s (objects (parameters s)) → (f.count ≡ length (parameters s)) × (f.work ≡ length (works_of s 0 (parameters s)))
+measured_count s f e = (cc, cc)
 
 -- n records and m bytes, by the two tests
 module _ (s : List ℕ) (os : List Object) (work : List ℕ) (rows n m : ℕ) (en : n ≡ length os) (em : m ≡ length (works_of s 0 os)) where
@@ -69,7 +63,7 @@ module _ (s : List ℕ) (os : List Object) (work : List ℕ) (rows n m : ℕ) (e
       let t : objects_fit s os (length work) rows ≡ true =
       and_both (leb (length (works_of s 0 os)) (length work)) (leb (length os) rows) (le-leb (length (works_of s 0 os)) (length work) (omega arith)) (le-leb (length os) rows (omega arith)) in
       record {
-        answers = ap₂ Ok (objects_found en em) ∙ sym (pick_yes _ _ t);
+        answers = ap₂ (λ (x y : ℕ). Ok (objects_found x y)) en em ∙ sym (pick_yes _ _ t);
         work_is = a ∙ laid_fits work 0 (works_of s 0 os) (omega arith) ∙ sym (pick_yes _ _ t);
       }
 
@@ -115,10 +109,6 @@ from_start : (ys l : List DdmObject) → splice ys 0 l ≡ l ++ drop (length l) 
 unfolding splice
 from_start ys l = let z : 0 + length l ≡ length l = omega arith in ap (λ (n : ℕ). l ++ drop n ys) z
 
-as_it_was : (s : List ℕ) (ys : List DdmObject) → recs_from 0 s 0 ++ drop (length (recs_from 0 s 0)) ys ≡ ys
-unfolding recs_from
-as_it_was s ys = refl
-
 none_landed : (s : List ℕ) (size : ℕ) (ys : List DdmObject) → landed (objects_fit s [] size (length ys)) ys (object_records s 0 []) ≡ ys
 unfolding works_of object_records
 none_landed s size ys =
@@ -126,37 +116,43 @@ none_landed s size ys =
 
 -- ---- work area and row together
 
-module _ (whole : Bool) (s : List ℕ) (work : List ℕ) (ys : List DdmObject) (r : Result ObjectsFound Refused) (zw : List ℕ) (t : TakesWork s (walked_as whole s) work (length ys) r zw) where
-  -- an answer's records fit the row
-  pub count_fits : count_of r ≤ length ys
-  count_fits = rw t.answers (go (walked_as whole s))
-    where
-      go : (x : AllParsed) → count_of (given_list s (length work) (length ys) x) ≤ length ys
-      go (objects os) =
-          pick_by (λ (a : Result ObjectsFound Refused). count_of a ≤ length ys) (objects_fit s os (length work) (length ys)) (Ok (objects_found (length os) (length (works_of s 0 os)))) (Err (no_room 0 (length (works_of s 0 os)) (length os)))
-          (λ f. leb-true (length os) (length ys) (and_split (leb (length (works_of s 0 os)) (length work)) (leb (length os) (length ys)) f).1)
-          (λ f. omega arith)
-      go (refused_all y) = omega arith
+module _ (s work : List ℕ) (ys : List DdmObject) where
+  abbrev fit : Bool
+  fit = objects_fit s (parameters s) (length work) (length ys)
 
-  -- what the row then holds
-  row_landed : (x : AllParsed) → walked_as whole s ≡ x → (zr : List DdmObject) → r ≡ given_list s (length work) (length ys) x
-      → zr ≡ recs_from (count_of r) s 0 ++ drop (length (recs_from (count_of r) s 0)) ys
-      → zr ≡ landed (objects_fit s (listed x) (length work) (length ys)) ys (object_records s 0 (listed x))
-  row_landed (objects os) w zr a f =
-      by (objects_fit s os (length work) (length ys))
-      (λ k. let c : count_of r ≡ length os = ap count_of (a ∙ pick_yes _ _ k) in
-      let e : recs_from (count_of r) s 0 ≡ object_records s 0 os = ap (λ (n : ℕ). recs_from n s 0) c ∙ recs_records s os 0 (walked_parameters whole s os w) in
-      f ∙ ap (λ (l : List DdmObject). l ++ drop (length l) ys) e ∙ sym (pick_yes _ _ k ∙ from_start ys (object_records s 0 os)))
-      (λ k. let c : count_of r ≡ 0 = ap count_of (a ∙ pick_no _ _ k) in
-      f ∙ ap (λ (n : ℕ). recs_from n s 0 ++ drop (length (recs_from n s 0)) ys) c ∙ as_it_was s ys ∙ sym (pick_no _ _ k))
-  row_landed (refused_all y) w zr a f =
-      let c : count_of r ≡ 0 = ap count_of a in
-      f ∙ ap (λ (n : ℕ). recs_from n s 0 ++ drop (length (recs_from n s 0)) ys) c ∙ as_it_was s ys ∙ sym (none_landed s (length work) ys)
-
-  pub lists_as : (n : ℕ) (zr : List DdmObject) → RowFilled s (count_of r) ys n zr → FillsRow whole s work ys r zw zr
-  lists_as n zr f =
-      record {
-        answers = t.answers;
+  -- what was measured fits, and the row is filled
+  pub lists_found : (f g : ObjectsFound) (zw : List ℕ) (zr : List DdmObject) → Ok f ≡ measured_objects s (objects (parameters s))
+      → TakesWork s (objects (parameters s)) work (length ys) (Ok g) zw → RowFilled s f.count ys zr → ListsParameters s work ys (Ok f) zw zr
+  lists_found f g zw zr e t k =
+      let c : f.count ≡ length (parameters s) = (measured_count s f e).0 in
+      let r : recs_from f.count s 0 ≡ object_records s 0 (parameters s) = ap (λ (n : ℕ). recs_from n s 0) c ∙ recs_records s (parameters s) 0 refl in
+      picked fit (sym t.answers)
+      (λ b q. record {
+        answers = e ∙ sym (pick_yes _ _ b);
         work_is = t.work_is;
-        row_is = row_landed (walked_as whole s) refl zr t.answers (f.row_is ∙ ap (λ (k : ℕ). recs_from (count_of r) s 0 ++ drop k ys) f.count_is);
-      }
+        row_is = k.row_is ∙ ap (λ (l : List DdmObject). l ++ drop (length l) ys) r ∙ sym (pick_yes _ _ b ∙ from_start ys (object_records s 0 (parameters s)));
+      })
+      (λ b q. absurd (let z : ◌≡◌ {A = ℕ} 0 1 = cc in omega arith))
+
+  -- it doesn't fit, and nothing is filled
+  pub lists_none : (r : Refused) (zw : List ℕ) → TakesWork s (objects (parameters s)) work (length ys) (Err r) zw → ListsParameters s work ys (Err r) zw ys
+  lists_none r zw t =
+      picked fit (sym t.answers)
+      (λ b q. absurd (let z : ◌≡◌ {A = ℕ} 0 1 = cc in omega arith))
+      (λ b q. record { answers = t.answers; work_is = t.work_is; row_is = sym (pick_no _ _ b) })
+
+  -- all objects of a run are refused whole
+  pub lists_refused : (r : Refused) → measured_objects s (all_objects s) ≡ Err r → ParsesObjects s work ys (Err r) work ys
+  lists_refused r e = go (all_objects s) e
+    where
+      go : (x : AllParsed) → measured_objects s x ≡ Err r → Lists s (listed x) (λ size rows. given_list s size rows x) work ys (Err r) work ys
+      go (objects os) q = absurd (let z : ◌≡◌ {A = ℕ} 0 1 = cc in omega arith)
+      go (refused_all y) q =
+          let t = takes_refused s (refused_all y) work (length ys) r q in
+          record { answers = t.answers; work_is = t.work_is; row_is = sym (none_landed s (length work) ys) }
+
+-- and otherwise they are listed as the parameters are
+pub lists_all : (s work : List ℕ) (ys : List DdmObject) (r : Result ObjectsFound Refused) (zw : List ℕ) (zr : List DdmObject) (f : ObjectsFound)
+    → measured_objects s (all_objects s) ≡ Ok f → ListsParameters s work ys r zw zr → ParsesObjects s work ys r zw zr
+lists_all s work ys r zw zr f e k =
+    subst (λ (x : AllParsed). Lists s (listed x) (λ size rows. given_list s size rows x) work ys r zw zr) (sym (measured_all s f e)) k

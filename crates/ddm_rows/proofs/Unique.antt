@@ -1,9 +1,8 @@
 -- Any two outcomes that a contract of this crate allows are equal. Each statement names the contract, and doesn't write it again.
 -- Of a function over a row, or over a walker, its own clause is named, and shown to be a fact that leaves no choice.
-use Rattle.std.specs.Prelude.{Result}
+use Rattle.std.specs.Prelude.{Result, Ok}
 use Prim.Native.Nat.{ℕ}
 use mathlib.Core.Path.{◌≡◌, refl, sym, ◌∙◌}
-use mathlib.Core.Bool.{Bool}
 use mathlib.Core.List.{List}
 use seplogic.Ra.Ura.{Ura}
 use base.Logic.{SProp}
@@ -21,8 +20,8 @@ use Rattle.ddm_object.specs.declared.DdmObject.{DdmObject}
 use Rattle.ddm_rows.specs.declared.Walker.{Walker}
 use Rattle.ddm_rows.proofs.measure_objects.Reads as measure_objects
 use Rattle.ddm_rows.proofs.measure_parameters.Reads as measure_parameters
-use Rattle.ddm_rows.proofs.take_as.Reads as take_as
-use Rattle.ddm_rows.proofs.count_of.Reads as count_of
+use Rattle.ddm_rows.proofs.take_objects.Reads as take_objects
+use Rattle.ddm_rows.proofs.take_parameters.Reads as take_parameters
 use Rattle.ddm_rows.proofs.rest_at.Reads as rest_at
 use Rattle.ddm_rows.specs.contracts.parse_ddm_objects as parse_ddm_objects
 use Rattle.ddm_rows.specs.contracts.parameters as parameters
@@ -38,8 +37,8 @@ use Rattle.answer.specs.declared.Refused.{Refused}
 pub measure_objects_one : (κs : Lfts 1) (d : Bor (List ℕ)) (r r' : Result ObjectsFound Refused) → measure_objects.Post κs (d, tt) r (d, tt) → measure_objects.Post κs (d, tt) r' (d, tt) → r ≡ r'
 measure_objects_one κs d r r' p q = p ∙ sym q
 
-pub measure_parameters_one : (κs : Lfts 1) (d : Bor (List ℕ)) (r r' : Result ObjectsFound Refused) → measure_parameters.Post κs (d, tt) r (d, tt) → measure_parameters.Post κs (d, tt) r' (d, tt) → r ≡ r'
-measure_parameters_one κs d r r' p q = p ∙ sym q
+pub measure_parameters_one : (κs : Lfts 1) (d : Bor (List ℕ)) (r r' : ObjectsFound) → measure_parameters.Post κs (d, tt) r (d, tt) → measure_parameters.Post κs (d, tt) r' (d, tt) → r ≡ r'
+measure_parameters_one κs d r r' p q = let e : ◌≡◌ {A = Result ObjectsFound Refused} (Ok r) (Ok r') = p ∙ sym q in cc
 
 -- ---- lists, with a work area and a row
 
@@ -81,14 +80,15 @@ module _ {M : Type 1} {𝓤 : Ura M} (𝓛 : Logic 𝓤) (mem : Memory → SProp
   pub rest_says : (κs : Lfts 1) (w : Walker) (r : Bor (List ℕ)) → (rest.clauses 𝓛 mem run κs (w, tt)).ensures tt r (w, tt) ≡ fact 𝓤 (RestAt w.«data» w.at r)
   rest_says κs w r = refl
 
--- ---- what the calls over rows share
+-- ---- all but the row
 
-module _ (κs : Lfts 2) (s : Bor (List ℕ)) (work : MutBor (List ℕ)) (whole : Bool) (rows : ℕ) where
-  pub take_as_one : (r r' : Result ObjectsFound Refused) (l l' : List ℕ)
-      → take_as.Post κs (s, (whole, (work, (rows, tt)))) r (s, (whole, (at_last work l, (rows, tt))))
-      → take_as.Post κs (s, (whole, (work, (rows, tt)))) r' (s, (whole, (at_last work l', (rows, tt))))
+module _ (κs : Lfts 2) (s : Bor (List ℕ)) (work : MutBor (List ℕ)) (rows : ℕ) (r r' : Result ObjectsFound Refused) (l l' : List ℕ) where
+  pub take_objects_one : take_objects.Post κs (s, (work, (rows, tt))) r (s, (at_last work l, (rows, tt)))
+      → take_objects.Post κs (s, (work, (rows, tt))) r' (s, (at_last work l', (rows, tt)))
       → (r ≡ r') × (l ≡ l')
-  take_as_one r r' l l' p q = (p.answers ∙ sym q.answers, p.work_is ∙ sym q.work_is)
+  take_objects_one p q = (p.answers ∙ sym q.answers, p.work_is ∙ sym q.work_is)
 
-pub count_of_one : (κs : Lfts 0) (x : Result ObjectsFound Refused) (r r' : ℕ) → count_of.Post κs (x, tt) r (x, tt) → count_of.Post κs (x, tt) r' (x, tt) → r ≡ r'
-count_of_one κs x r r' p q = p ∙ sym q
+  pub take_parameters_one : take_parameters.Post κs (s, (work, (rows, tt))) r (s, (at_last work l, (rows, tt)))
+      → take_parameters.Post κs (s, (work, (rows, tt))) r' (s, (at_last work l', (rows, tt)))
+      → (r ≡ r') × (l ≡ l')
+  take_parameters_one p q = (p.answers ∙ sym q.answers, p.work_is ∙ sym q.work_is)

@@ -4,32 +4,30 @@
 
 mod rows; // rows.rt: the work area and the row of a list
 
-ghost use Rattle.std.specs.Prelude.{◌≡◌, length};
+ghost use Rattle.std.specs.Prelude.{◌≡◌, length, Ok};
 ghost use Rattle.wire.specs.Parts.{RestAt};
 ghost use Rattle.ddm_object.specs.Objects.{objects, all_objects, parameters};
 ghost use Rattle.ddm_object.specs.ObjectCalls.{param_step_at};
 ghost use Rattle.ddm_rows.specs.ListCalls.{ParsesObjects, ListsParameters, measured_objects};
 ghost use Rattle.ddm_rows.specs.inner.WalkedList.{work_len, WalkedParams};
-ghost use Rattle.ddm_rows.specs.ObjectRows.{walked_as, count_of, TakesWork};
+ghost use Rattle.ddm_rows.specs.ObjectRows.{TakesWork};
 
 use answer::Refused;
-use ddm_length::Marshaled;
-use ddm_object::{DdmObject, Stepped};
+use ddm_object::DdmObject;
 
 // What listing all objects, or all parameters, comes to: how many records stand in the row, and how many bytes of the work
 // area are filled.
 #[derive(Clone, Copy)]
-pub enum ObjectsFound {
-    Objects { count: usize, work: usize },
-    Refused(Refused),
+pub struct ObjectsFound {
+    pub count: usize,
+    pub work: usize,
 }
 
 // What the walk over all objects, or all parameters, comes to: how many there are, how much of the work area they need, and
 // where it stops.
 #[derive(Drop)]
 pub(crate) struct Extent {
-    pub count: usize,
-    pub work: usize,
+    pub found: ObjectsFound,
     pub end: usize,
 }
 
@@ -37,10 +35,7 @@ pub(crate) struct Extent {
 pub(crate) fn work_len(o: DdmObject) -> usize
     ensures { result ≡ work_len o }
 {
-    if o.in_work {
-        return o.data_len;
-    }
-    0
+    if o.in_work { o.data_len } else { 0 }
 }
 
 // Walks from object to object by measuring alone, up to the first that is refused.
@@ -50,110 +45,78 @@ pub(crate) fn walk(data: &[u8]) -> Extent
     let mut count: usize = 0;
     let mut work: usize = 0;
     let mut at: usize = 0;
-    loop {
-        match ddm_object::step_at(data, at) {
-            Stepped::Param(o, next) => {
-                work += work_len(o);
-                count += 1;
-                at = next;
-            }
-            Stepped::Refused(_) => {
-                return Extent {
-                    count,
-                    work,
-                    end: at,
-                };
-            }
-        }
+    while let Ok((o, next)) = ddm_object::step_at(data, at) {
+        count += 1;
+        work += work_len(o);
+        at = next;
+    }
+    Extent {
+        found: ObjectsFound { count, work },
+        end: at,
     }
 }
 
 // How many parameters there are, and how much of the work area they need.
 pub fn measure_parameters(data: &[u8]) -> ObjectsFound
-    ensures { result ≡ measured_objects «data».now (objects (parameters «data».now)) }
+    ensures { Ok result ≡ measured_objects «data».now (objects (parameters «data».now)) }
 {
-    let w = walk(data);
-    ObjectsFound::Objects {
-        count: w.count,
-        work: w.work,
-    }
+    walk(data).found
 }
 
 // The same of all objects of a run, or the refusal of one of them.
-pub fn measure_objects(run: &[u8]) -> ObjectsFound
+pub fn measure_objects(run: &[u8]) -> Result<ObjectsFound, Refused>
     ensures { result ≡ measured_objects run.now (all_objects run.now) }
 {
-    let w = walk(run);
-    let end = w.end;
-    if run.len() - end < 4 {
-        return ObjectsFound::Objects {
-            count: w.count,
-            work: w.work,
-        };
+    let Extent { found, end } = walk(run);
+    if run.len() - end >= 4 {
+        ddm_length::measure_at(&run[end..], end)?;
     }
-    match ddm_length::measure_at(&run[end..], end) {
-        Marshaled::Refused(r) => {
-            return ObjectsFound::Refused(r);
-        }
-        Marshaled::Takes {
-            total: _,
-            header: _,
-        } => {
-            return ObjectsFound::Objects {
-                count: w.count,
-                work: w.work,
-            };
-        }
-    }
+    Ok(found)
 }
 
-// All but the row: measures, tests work area and row, lays into the work area, and answers.
-pub fn take_as(data: &[u8], whole: bool, work: &mut [u8], rows: usize) -> ObjectsFound
-    ensures { TakesWork «data».now (walked_as whole «data».now) work.old rows result work.new }
+// All but the row, of all objects of a run: measures, tests work area and row, lays into the work area, and answers.
+pub fn take_objects(run: &[u8], work: &mut [u8], rows: usize) -> Result<ObjectsFound, Refused>
+    ensures { TakesWork run.now (all_objects run.now) work.old rows result work.new }
 {
-    match rows::measure_as(data, whole) {
-        ObjectsFound::Objects { count, work: need } => {
-            return rows::take_listed(data, count, need, work, rows);
-        }
-        ObjectsFound::Refused(r) => {
-            return ObjectsFound::Refused(r);
-        }
-    }
+    let found = measure_objects(run)?;
+    rows::take_listed(run, found, work, rows)
 }
 
-// How many records an answer has.
-pub fn count_of(found: ObjectsFound) -> usize
-    ensures { result ≡ count_of found }
+// The same of all parameters of an object's data.
+pub fn take_parameters(data: &[u8], work: &mut [u8], rows: usize) -> Result<ObjectsFound, Refused>
+    ensures { TakesWork «data».now (objects (parameters «data».now)) work.old rows result work.new }
 {
-    match found {
-        ObjectsFound::Objects { count, work: _ } => count,
-        ObjectsFound::Refused(_) => 0,
-    }
+    rows::take_listed(data, measure_parameters(data), work, rows)
 }
 
 // All objects of a run, one record each; it ignores 1 to 3 last bytes, and is refused whole on any refusal.
-pub fn parse_ddm_objects(bytes: &[u8], work: &mut [u8], row: &mut [DdmObject]) -> ObjectsFound
+pub fn parse_ddm_objects(
+    bytes: &[u8],
+    work: &mut [u8],
+    row: &mut [DdmObject],
+) -> Result<ObjectsFound, Refused>
     ensures { ParsesObjects bytes.now work.old row.old result work.new row.new }
 {
-    rows::list(bytes, true, work, row)
+    let found = measure_objects(bytes)?;
+    rows::list(bytes, found, work, row)
 }
 
 // All parameters of an object's data, one record each; anything unfit ends the list silently.
-pub fn parameters(data: &[u8], work: &mut [u8], row: &mut [DdmObject]) -> ObjectsFound
+pub fn parameters(
+    data: &[u8],
+    work: &mut [u8],
+    row: &mut [DdmObject],
+) -> Result<ObjectsFound, Refused>
     ensures { ListsParameters «data».now work.old row.old result work.new row.new }
 {
-    rows::list(data, false, work, row)
+    rows::list(data, measure_parameters(data), work, row)
 }
 
 // All that stands from a place on; beyond the data it is the empty part at its end.
 pub fn rest_at(data: &[u8], at: usize) -> &[u8]
     ensures { RestAt «data».entry at result }
 {
-    if data.len() < at {
-        let end = data.len();
-        return &data[end..];
-    }
-    &data[at..]
+    &data[at.min(data.len())..]
 }
 
 // A parameter walker remembers the data and its place.
@@ -172,7 +135,7 @@ impl<'a> Walker<'a> {
     }
 
     // The parameter at its place and the next place, or a refusal.
-    pub fn step(self) -> Stepped
+    pub fn step(self) -> Result<(DdmObject, usize), Refused>
         ensures { result ≡ param_step_at self.entry.«data».now self.entry.at }
     {
         ddm_object::step_at(self.data, self.at)
@@ -182,10 +145,7 @@ impl<'a> Walker<'a> {
     pub fn moved(self, at: usize) -> Walker<'a>
         ensures { (result.«data» ≡ self.entry.«data») × (result.at ≡ at) }
     {
-        Walker {
-            data: self.data,
-            at,
-        }
+        Walker { at, ..self }
     }
 
     // What is left of the data.

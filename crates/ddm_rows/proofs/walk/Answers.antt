@@ -10,7 +10,7 @@ loop-o-init c = walking_start _
 
 pub overflow_add-work : goal.overflow_add-work
 overflow_add-work c =
-    let w = walking_step _ _ _ _ c.loop-o.invariant _ _ (step_of _ _ _ _ (sym c.in-Param.ensures)) in
+    let w = walking_step _ _ _ _ c.loop-o.invariant _ _ (step_of _ _ _ _ (sym c.in-Ok.ensures)) in
     omega (arith, c.work_len-work.ensures, w.small, w.within)
 
 pub overflow_add-count : goal.overflow_add-count
@@ -19,13 +19,13 @@ overflow_add-count c =
 
 pub loop-o-smaller : goal.loop-o-smaller
 loop-o-smaller c =
-    let f = step_of _ _ _ _ (sym c.in-Param.ensures) in
+    let f = step_of _ _ _ _ (sym c.in-Ok.ensures) in
     omega (arith, f.on, f.within)
 
 pub loop-o-preserved : goal.loop-o-preserved
 loop-o-preserved c =
-    rw c.work_len-work.ensures (walking_step _ _ _ _ c.loop-o.invariant _ _ (step_of _ _ _ _ (sym c.in-Param.ensures)))
+    rw c.work_len-work.ensures (walking_step _ _ _ _ c.loop-o.invariant _ _ (step_of _ _ _ _ (sym c.in-Ok.ensures)))
 
-pub returns-in-Refused : goal.returns-in-Refused
-returns-in-Refused c =
-    walking_end _ _ _ _ _ c.loop-o.invariant (sym c.in-Refused.ensures)
+pub returns : goal.returns
+returns c =
+    walking_end _ _ _ _ _ c.loop-o.invariant (sym c.in_default.ensures)

@@ -17,8 +17,8 @@ abbrev pub work_len : DdmObject → ℕ
 work_len o = pick o.in_work o.data_len 0
 
 pub record WalkedParams (s : List ℕ) (w : Extent) : Type 0 where
-  pub count_is : w.count ≡ length (parameters s)
-  pub work_is : w.work ≡ length (works_of s 0 (parameters s))
+  pub count_is : w.found.count ≡ length (parameters s)
+  pub work_is : w.found.work ≡ length (works_of s 0 (parameters s))
   pub within : w.end ≤ length s
   pub stops : Refuses (drop w.end s)
   pub alls : all_objects s ≡ and_all (parameters s) (all_from (drop w.end s) w.end)

@@ -1,10 +1,7 @@
 -- `ddm_rows::rows::fill_row` meets its contract. The invariant: the records stored so far, and what still stands behind them.
-use Prim.Native.Nat.{◌-◌}
+use lib.ListN.{take}
 use Rattle.ddm_rows.proofs.ObjectFilling.{FillingObjects}
 use Rattle.ddm_rows.proofs.rows.fill_row.Given as goal
 
-abbrev pub invariant-loop-i : goal.invariant-loop-i
-invariant-loop-i l = FillingObjects l.data l.n l.initial.row l.i l.at l.row
-
-abbrev pub decreases-loop-i : goal.decreases-loop-i
-decreases-loop-i l = l.n - l.i
+abbrev pub invariant-loop-slot : goal.invariant-loop-slot
+invariant-loop-slot l = FillingObjects l.«data» l.n (take l.n l.fn.row) l.slot-index l.at l.slot-items
