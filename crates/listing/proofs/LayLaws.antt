@@ -22,7 +22,7 @@ wide : (size n : ℕ) → size < n → room_for 0 size n ≡ Err (no_room 0 n 0)
 wide size n h = rw (le-leb 0 size (omega arith), sub-zero, lt-leb n size h)
 
 -- the largest need there is
-most : (n : ℕ) → 2 ^ 64 ≤ n → Err (no_room 0 18446744073709551615 0) ≡ Err (no_room 0 n 0)
+most : (n : ℕ) → 2 ^ 64 ≤ n → ◌≡◌ {A = Result (Unit {0}) Refused} (Err (no_room 0 18446744073709551615 0)) (Err (no_room 0 n 0))
 most n k =
     let e : capped n ≡ 18446744073709551615 = capped_high n k in
     let m : capped 18446744073709551615 ≡ 18446744073709551615 = capped_low 18446744073709551615 (omega arith) in

@@ -10,7 +10,8 @@ use Rattle.wire.proofs.WireLaws.{pick_yes, pick_no}
 use Rattle.answer.specs.Numbers.{not_whole}
 use Rattle.answer.specs.declared.Refused.{Refused}
 use Rattle.text.specs.Texts.{text}
-use Rattle.text.specs.inner.Puts.{Puts}
+use Rattle.text.specs.declared.Text.{Text}
+use Rattle.text.specs.inner.PutsText.{PutsText}
 use Rattle.dss_frame.specs.declared.Rules.{Rules}
 use Rattle.dss_frame.specs.declared.Rules.TheVariants.{Reader, Salvage}
 use Rattle.dss_frame.specs.Segments.{end_of}
@@ -124,5 +125,5 @@ pub list_salvage : (rules : Rules) (s : List ℕ) → length s ≤ 65536 → rul
 unfolding list_text
 list_salvage rules s h e = pick_yes _ _ (le-leb (length s) 65536 h) ∙ ap (λ (x : Rules). lines_under x s) e
 
-pub puts_as : {x y room : List ℕ} {at r : ℕ} {after : List ℕ} → x ≡ y → Puts y room at r after → Puts x room at r after
-puts_as e p = rw e p
+pub puts_text_as : {x y : List ℕ} {before after : Text} → x ≡ y → PutsText y before after → PutsText x before after
+puts_text_as e p = rw e p

@@ -1,5 +1,5 @@
--- `listing::put_frames` meets its contract. The loop's invariant: the lines from the present position on, put into the room as it is, come
--- to all lines put into the room as it was. The measure is what is left of the run.
+-- `listing::put_frames` meets its contract: what is measured is what is read there.
+use Rattle.std.proofs.Common.{rules}
 use native.Mathlib.Omega.{arith}
 use mathlib.Core.Path.{sym}
 use Rattle.text.proofs.PutLaws.{leads_start, leads_as, leads_on, leads_last}
@@ -9,22 +9,37 @@ use Rattle.listing.proofs.ListLaws.{frames_from, lines_frame, lines_end, lines_r
 use Rattle.listing.proofs.put_frames.Goals as goal
 
 pub loop-measure-init : goal.loop-measure-init
-loop-measure-init c = (omega arith, leads_as (frames_from _) (leads_start _ _ _ (omega arith)))
+loop-measure-init c =
+    record {
+      there = omega arith;
+      leads = leads_as (frames_from _) (leads_start _ _ _ (omega arith));
+      same_room = search rules;
+    }
 
 pub loop-measure-smaller : goal.loop-measure-smaller
-loop-measure-smaller c = omega (arith, measures Reader _ _ _ (sym c.in-Frame.ensures))
+loop-measure-smaller c = omega (arith, measures Reader _ _ _ (sym c.in-Ok.ensures))
 
 pub loop-measure-preserved : goal.loop-measure-preserved
 loop-measure-preserved c =
-    let w = measures Reader c.args.run.now c.loop-measure.position c.in-Frame.measure (sym c.in-Frame.ensures) in
-    (omega (arith, w), leads_on _ _ (leads_as (lines_frame _ _ _ w) c.loop-measure.invariant.1) c.put_frame-at.ensures)
+    let w = measures Reader c.args.run.now c.loop-measure.position c.in-Ok.measure (sym c.in-Ok.ensures) in
+    record {
+      there = omega (arith, w);
+      leads = leads_on _ _ (leads_as (lines_frame _ _ _ w) c.loop-measure.invariant.leads) c.put_frame.ensures.puts;
+      same_room = search rules;
+    }
 
-pub returns-then-not_whole : goal.returns-then-not_whole
-returns-then-not_whole c =
-    let n = measured_not Reader c.args.run.now c.loop-measure.position c.in-Refused.refused (sym c.in-Refused.ensures) in
-    leads_last _ (leads_as (lines_end _ _ _ n (sym c.if-not_whole.ensures)) c.loop-measure.invariant.1) c.put_end.ensures
+pub returns-in-Err : goal.returns-in-Err
+returns-in-Err c =
+    let n = measured_not Reader c.args.run.now c.loop-measure.position c.in-Err.refused (sym c.in-Err.ensures) in
+    record {
+      puts = leads_last _ (leads_as (lines_end _ _ _ n (sym c.if-not_whole.ensures)) c.loop-measure.invariant.leads) c.put_end.ensures.puts;
+      same_room = search rules;
+    }
 
-pub returns-in-Refused : goal.returns-in-Refused
-returns-in-Refused c =
-    let n = measured_not Reader c.args.run.now c.loop-measure.position c.in-Refused.refused (sym c.in-Refused.ensures) in
-    leads_last _ (leads_as (lines_refused _ _ _ n (sym c.if-not_whole.ensures)) c.loop-measure.invariant.1) c.put_refused.ensures
+pub returns-in-Err-2 : goal.returns-in-Err-2
+returns-in-Err-2 c =
+    let n = measured_not Reader c.args.run.now c.loop-measure.position c.in-Err.refused (sym c.in-Err.ensures) in
+    record {
+      puts = leads_last _ (leads_as (lines_refused _ _ _ n (sym c.if-not_whole.ensures)) c.loop-measure.invariant.leads) c.put_refused.ensures.puts;
+      same_room = search rules;
+    }
