@@ -8,13 +8,12 @@ use Rattle.ddm_object.specs.declared.DdmObject.{DdmObject}
 use Rattle.gateway_words.specs.AnswerWords.{refusal_words, done_words, Leaves}
 use Rattle.ddm_length.specs.declared.Marshaled.{Marshaled}
 use Rattle.answer.specs.declared.Refused.{Refused}
-use Rattle.ddm_length.specs.Lengths.{takes}
 
 -- ---- lengths and markers
 
 -- what a length field says: the whole length, and the header's
 abbrev pub length_words : Result Marshaled Refused → List ℕ
-length_words (Ok (takes total header)) = done_words total header 0 0
+length_words (Ok m) = done_words m.total m.header 0 0
 length_words (Err r) = refusal_words r
 
 -- ---- objects and parameters
@@ -55,13 +54,16 @@ abbrev pub word_of : ℤ → ℕ
 word_of (pos n) = n
 word_of (negsuc n) = 2 ^ 64 - suc n
 
+-- a number that isn't negative
+abbrev pub number_words : Result ℕ Refused → List ℕ
+number_words (Ok n) = done_words n 0 0 0
+number_words (Err r) = refusal_words r
+
 abbrev pub u16_words : Result ℕ Refused → List ℕ
-u16_words (Ok n) = done_words n 0 0 0
-u16_words (Err r) = refusal_words r
+u16_words = number_words
 
 abbrev pub u32_words : Result ℕ Refused → List ℕ
-u32_words (Ok n) = done_words n 0 0 0
-u32_words (Err r) = refusal_words r
+u32_words = number_words
 
 abbrev pub i32_words : Result ℤ Refused → List ℕ
 i32_words (Ok n) = done_words (word_of n) 0 0 0

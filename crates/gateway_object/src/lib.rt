@@ -9,30 +9,23 @@ ghost use Rattle.ddm_builder.specs.Built.{built_size};
 ghost use Rattle.ddm_object.specs.ObjectCalls.{param_step_at, u16_of, u32_of, i32_of};
 ghost use Rattle.ddm_length.specs.Markers.{unmarked};
 ghost use Rattle.gateway_words.specs.AnswerWords.{Answered, LaysInWords};
-ghost use Rattle.gateway_object.specs.ObjectWords.{length_words, flag_word, placed_words, found_words, step_words, ReadsObject, ReadsParam, word_of, u16_words, u32_words, i32_words};
+ghost use Rattle.gateway_object.specs.ObjectWords.{length_words, placed_words, found_words, step_words, ReadsObject, ReadsParam, number_words, u16_words, u32_words, i32_words};
 
+use answer::Refused;
 use ddm_length::Marshaled;
-use ddm_object::{DdmObject, I32Found, ObjectFound, Stepped, U16Found, U32Found};
+use ddm_object::DdmObject;
 use gateway_words::{put_done, put_laid, put_refusal, put_words};
 
 // ---- lengths and markers
-
-// What a length field says, or why it says nothing.
-pub(crate) fn put_length(words: &mut [u64], found: Marshaled) -> u8
-    ensures { Answered (length_words found) words.old result words.new }
-{
-    match found {
-        Marshaled::Takes { total, header } => put_done(words, total as u64, header as u64, 0, 0),
-        Marshaled::Refused(refused) => put_refusal(words, refused),
-    }
-}
 
 // The result: the whole length that the length field says, and the header's.
 pub fn lattrugone_parse_marshaled_length(data: &[u8], words: &mut [u64]) -> u8
     ensures { Answered (length_words (marshaled «data».now 0)) words.old result words.new }
 {
-    let found = ddm_length::parse_marshaled_length(data);
-    put_length(words, found)
+    match ddm_length::parse_marshaled_length(data) {
+        Ok(Marshaled { total, header }) => put_done(words, total as u64, header as u64, 0, 0),
+        Err(refused) => put_refusal(words, refused),
+    }
 }
 
 // Data without its markers, at the room's first byte. The result: how many bytes that are.
@@ -46,49 +39,33 @@ pub fn lattrugone_strip_markers(data: &[u8], room: &mut [u8], words: &mut [u64])
 // ---- objects and parameters. The result: code point; 1 where the data lie in the work area, 0 where in the run; where they
 // start there; how many they are; how many bytes the object takes.
 
-// Yes or no as a word.
-pub(crate) fn flag_word(b: bool) -> u64
-    ensures { result ≡ flag_word b }
-{
-    if b { 1 } else { 0 }
-}
-
 // An object, with a place beside the number 0.
 pub fn put_object(words: &mut [u64], place: usize, o: DdmObject) -> u8
     ensures { Answered (placed_words place o) words.old result words.new }
 {
-    let in_work = flag_word(o.in_work);
     put_words(
         words,
-        0,
-        place as u64,
-        o.code_point as u64,
-        in_work,
-        o.data_at as u64,
-        o.data_len as u64,
-        o.consumed as u64,
-        0,
+        [
+            0,
+            place as u64,
+            u64::from(o.code_point),
+            u64::from(o.in_work),
+            o.data_at as u64,
+            o.data_len as u64,
+            o.consumed as u64,
+            0,
+        ],
     );
     0
 }
 
 // An object, or why there is none.
-pub(crate) fn put_found(words: &mut [u64], found: ObjectFound) -> u8
+pub(crate) fn put_found(words: &mut [u64], found: Result<DdmObject, Refused>) -> u8
     ensures { Answered (found_words found) words.old result words.new }
 {
     match found {
-        ObjectFound::Object(o) => put_object(words, 0, o),
-        ObjectFound::Refused(refused) => put_refusal(words, refused),
-    }
-}
-
-// A parameter with the next place, or why there is none.
-pub(crate) fn put_step(words: &mut [u64], step: Stepped) -> u8
-    ensures { Answered (step_words step) words.old result words.new }
-{
-    match step {
-        Stepped::Param(o, next) => put_object(words, next, o),
-        Stepped::Refused(refused) => put_refusal(words, refused),
+        Ok(o) => put_object(words, 0, o),
+        Err(refused) => put_refusal(words, refused),
     }
 }
 
@@ -112,83 +89,46 @@ pub fn lattrugone_find_param(data: &[u8], code_point: u16, work: &mut [u8], word
 pub fn lattrugone_param_step(data: &[u8], at: usize, words: &mut [u64]) -> u8
     ensures { Answered (step_words (param_step_at «data».now at)) words.old result words.new }
 {
-    let step = ddm_object::step_at(data, at);
-    put_step(words, step)
+    match ddm_object::step_at(data, at) {
+        Ok((o, next)) => put_object(words, next, o),
+        Err(refused) => put_refusal(words, refused),
+    }
 }
 
 // How many bytes the builder would make of an object with so much data, whatever else its record says.
 pub fn lattrugone_object_total_length(data_len: usize) -> usize
     ensures { result ≡ capped (built_size data_len) }
 {
-    let o = DdmObject {
-        code_point: 0,
-        in_work: false,
-        data_at: 0,
-        data_len,
-        consumed: 0,
-    };
-    o.total_length()
+    ddm_builder::built_size(data_len)
 }
 
 // ---- numbers read from data. The result: the number; a negative one as two's complement of 64 bits.
 
-pub(crate) fn put_u16(words: &mut [u64], found: U16Found) -> u8
-    ensures { Answered (u16_words found) words.old result words.new }
+// A number, or why there is none.
+pub(crate) fn put_number(words: &mut [u64], found: Result<u64, Refused>) -> u8
+    ensures { Answered (number_words found) words.old result words.new }
 {
     match found {
-        U16Found::Number(n) => put_done(words, n as u64, 0, 0, 0),
-        U16Found::Refused(refused) => put_refusal(words, refused),
-    }
-}
-
-pub(crate) fn put_u32(words: &mut [u64], found: U32Found) -> u8
-    ensures { Answered (u32_words found) words.old result words.new }
-{
-    match found {
-        U32Found::Number(n) => put_done(words, n as u64, 0, 0, 0),
-        U32Found::Refused(refused) => put_refusal(words, refused),
-    }
-}
-
-// A number as a word: -1 is the largest, so -1 - n below that is n.
-pub(crate) fn word_of(n: i32) -> u64
-    ensures { result ≡ word_of n }
-{
-    if n < 0 {
-        return 0xFFFF_FFFF_FFFF_FFFF - (-1 - n) as u64;
-    }
-    n as u64
-}
-
-pub(crate) fn put_i32(words: &mut [u64], found: I32Found) -> u8
-    ensures { Answered (i32_words found) words.old result words.new }
-{
-    match found {
-        I32Found::Number(n) => {
-            let word = word_of(n);
-            put_done(words, word, 0, 0, 0)
-        }
-        I32Found::Refused(refused) => put_refusal(words, refused),
+        Ok(n) => put_done(words, n, 0, 0, 0),
+        Err(refused) => put_refusal(words, refused),
     }
 }
 
 pub fn lattrugone_as_u16(data: &[u8], words: &mut [u64]) -> u8
     ensures { Answered (u16_words (u16_of «data».now)) words.old result words.new }
 {
-    let found = ddm_object::as_u16(data);
-    put_u16(words, found)
+    put_number(words, ddm_object::as_u16(data).map(u64::from))
 }
 
 pub fn lattrugone_as_u32(data: &[u8], words: &mut [u64]) -> u8
     ensures { Answered (u32_words (u32_of «data».now)) words.old result words.new }
 {
-    let found = ddm_object::as_u32(data);
-    put_u32(words, found)
+    put_number(words, ddm_object::as_u32(data).map(u64::from))
 }
 
 pub fn lattrugone_as_i32(data: &[u8], words: &mut [u64]) -> u8
     ensures { Answered (i32_words (i32_of «data».now)) words.old result words.new }
 {
     let found = ddm_object::as_i32(data);
-    put_i32(words, found)
+    put_number(words, found.map(|n| i64::from(n).cast_unsigned()))
 }
