@@ -1,17 +1,15 @@
 -- The parts that `read_all_frames` is made of: what the payloads' part answers, how many records an answer has, and that those are the
 -- definition's.
 use Rattle.std.specs.Prelude.{Result, Ok, Err}
-use Prim.Native.Nat.{ℕ, ◌≤◌, ◌<◌}
-use native.Mathlib.Omega.{arith}
-use mathlib.Core.Path.{◌≡◌, refl, sym, ap, ap₂, ◌∙◌}
-use mathlib.Core.Bool.{Bool, true, false}
+use Prim.Native.Nat.{ℕ}
+use mathlib.Core.Path.{◌≡◌, refl, sym, ap, ◌∙◌}
+use mathlib.Core.Bool.{true}
 use mathlib.Core.List.{List}
 use lib.Dec.{leb}
 use lib.ListN.{length}
-use borrow.Author.Tests.{leb-true, le-leb, lt-leb}
-use Rattle.wire.specs.Bytes.{and, splice}
-use Rattle.wire.proofs.WireLaws.{by, pick_yes, pick_no, picked, and_both, and_split, and_no}
-use Rattle.answer.specs.Rooms.{no_room}
+use borrow.Author.Tests.{leb-true}
+use Rattle.wire.specs.Bytes.{splice}
+use Rattle.wire.proofs.WireLaws.{by, pick_yes, pick_no, picked, and_split}
 use Rattle.answer.specs.declared.Refused.{Refused}
 use Rattle.dss_frame.specs.Reading.{Frame}
 use Rattle.dss_frame.specs.Frames.{AllRead, frames, refused_all, all_frames}
@@ -22,50 +20,31 @@ use Rattle.dss_frame.specs.inner.RowStart.{starts_at}
 use Rattle.dss_row.proofs.FrameRowLaws.{records_none, records_all}
 use Rattle.wire.proofs.FilledRow.{splice_nothing}
 use Rattle.dss_reader.specs.declared.DssReader.{DssReader}
-use Rattle.dss_reader.proofs.MeasuredFrames.{Counted}
+use Rattle.dss_reader.specs.declared.AllMeasured.{AllMeasured}
+use Rattle.dss_reader.specs.inner.MeasuredAll.{all_measured_of, measured_frames, fitting_of, fitting_frames}
 use Rattle.dss_reader.specs.inner.TakingAll.{all_payloads, FitsAll}
 use Rattle.dss_reader.specs.Reader.{stands_at, left_at, frames_fit, given_frames, room_all, row_all, ReadAllFrames, GathersFrames, records_in}
 use Rattle.dss_reader.specs.declared.FramesRead.{FramesRead}
 use Rattle.dss_reader.specs.Reader.{frames_read}
 
--- any refusal but 9
-pub answers_refused : (s : List ℕ) (p size rows : ℕ) (x : Refused) → all_frames s p ≡ refused_all x → (Err x, left_at p x) ≡ given_frames s p size rows (all_frames s p)
-answers_refused s p size rows x e = sym (ap (given_frames s p size rows) e)
+-- ---- what is answered, of what measuring came to
 
-module _ (size rows : ℕ) {s : List ℕ} {p count bytes end : ℕ} (w : Counted s p count bytes end) where
-  abbrev fits : Bool
-  fits = frames_fit s w.read size rows
+-- with the reader that it leaves
+abbrev given_of : ℕ → Result AllMeasured Refused → Result FramesRead Refused × DssReader
+given_of p (Ok m) = (Ok (frames_read m.count m.bytes), stands_at m.end)
+given_of p (Err r) = (Err r, left_at p r)
 
-  -- the bytes don't fit, or the records don't
-  pub wide_bytes : size < bytes → fits ≡ false
-  wide_bytes h = rw (lt-leb (length (payloads_of s w.read)) size (omega (arith, w.long)))
+module _ (s : List ℕ) (p size rows : ℕ) where
+  given_is : (a : AllRead) → given_of p (fitting_of p size rows (all_measured_of s a)) ≡ given_frames s p size rows a
+  given_is (refused_all r) = refl
+  given_is (frames fs q) =
+      by (frames_fit s fs size rows)
+      (λ t. ap (given_of p) (pick_yes _ _ t) ∙ sym (pick_yes _ _ t))
+      (λ t. ap (given_of p) (pick_no _ _ t) ∙ sym (pick_no _ _ t))
 
-  pub wide_records : rows < count → fits ≡ false
-  wide_records h =
-      ap (and (leb (length (payloads_of s w.read)) size)) (lt-leb (length w.read) rows (omega (arith, w.counted)))
-      ∙ and_no (leb (length (payloads_of s w.read)) size)
-
-  -- 9
-  pub answers_none : (r : Result FramesRead Refused × DssReader) → fits ≡ false → r ≡ (Err (no_room p bytes count), stands_at p) → r ≡ given_frames s p size rows (all_frames s p)
-  answers_none r t e =
-      e
-      ∙ sym
-      (ap (given_frames s p size rows) w.is
-      ∙ pick_no _ _ t
-      ∙ ap₂ (λ (b c : ℕ). (Err (no_room p b c), stands_at p)) w.long w.counted)
-
-  -- the frames
-  pub answers_frames : bytes ≤ size → count ≤ rows → (Ok (frames_read count bytes), stands_at end) ≡ given_frames s p size rows (all_frames s p)
-  answers_frames h k =
-      sym
-      (ap (given_frames s p size rows) w.is
-      ∙ pick_yes _ _ both
-      ∙ ap₂ (λ (b c : ℕ). (Ok (frames_read c b), stands_at end)) w.long w.counted)
-    where
-      both : fits ≡ true
-      both =
-          and_both (leb (length (payloads_of s w.read)) size) (leb (length w.read) rows)
-          (le-leb (length (payloads_of s w.read)) size (omega (arith, w.long))) (le-leb (length w.read) rows (omega (arith, w.counted)))
+  pub answers_given : (r : Result AllMeasured Refused) → r ≡ fitting_frames s p size rows → given_of p r ≡ given_frames s p size rows (all_frames s p)
+  unfolding measured_frames
+  answers_given r e = ap (given_of p) e ∙ given_is (all_frames s p)
 
 -- ---- what the room holds, of what was answered
 
@@ -77,8 +56,8 @@ pub record Fitted (s : List ℕ) (p size rows count : ℕ) : Type 0 where
   pub fit : frames_fit s read size rows ≡ true
   pub counted : length read ≡ count
 
-not_frames : (x : Refused) (d e : DssReader) (count bytes : ℕ) → (Err x, d) ≡ (Ok (frames_read count bytes), e) → ⊥
-not_frames x d e count bytes k = let z : ◌≡◌ {A = ℕ} 0 1 = cc in omega arith
+not_frames : (x : Refused) (d e : DssReader) (count bytes : ℕ) → ◌≡◌ {A = Result FramesRead Refused × DssReader} (Err x, d) (Ok (frames_read count bytes), e) → ⊥
+not_frames x d e count bytes k = let z : ◌≡◌ {A = Result FramesRead Refused} (Err x) (Ok (frames_read count bytes)) = ap (λ (r : Result FramesRead Refused × DssReader). r.0) k in cc
 
 module _ (s : List ℕ) (p size rows : ℕ) where
   pub fitted : (r : Result FramesRead Refused × DssReader) (count bytes : ℕ) (d : DssReader) → r ≡ given_frames s p size rows (all_frames s p) → r ≡ (Ok (frames_read count bytes), d) → Fitted s p size rows count
@@ -87,7 +66,7 @@ module _ (s : List ℕ) (p size rows : ℕ) where
       of_all : (a : AllRead) → all_frames s p ≡ a → given_frames s p size rows a ≡ (Ok (frames_read count bytes), d) → Fitted s p size rows count
       of_all (refused_all x) i l = absurd (not_frames x _ _ _ _ l)
       of_all (frames fs q) i l =
-          picked (frames_fit s fs size rows) l (λ t m. record { read = fs; end = q; is = i; fit = t; counted = cc })
+          picked (frames_fit s fs size rows) l (λ t m. record { read = fs; end = q; is = i; fit = t; counted = ap records_in m })
           (λ t m. absurd (not_frames _ _ _ _ _ m))
 
 module _ (s : List ℕ) (p : ℕ) (room : List ℕ) (rows : ℕ) where

@@ -18,23 +18,22 @@ use Rattle.dss_frame.specs.FrameRecords.{payloads_of}
 use Rattle.dss_laws.proofs.FramesLaws.{frames_more, frames_end, frames_refused}
 use Rattle.dss_measure.specs.declared.FrameMeasure.{FrameMeasure}
 use Rattle.dss_measure.proofs.Measures.{Measures}
-use Rattle.dss_reader.specs.inner.MeasuredAll.{all_measured_of, measured_frames}
+use Rattle.dss_reader.specs.inner.MeasuredAll.{all_measured, all_measured_of, measured_frames}
 use Rattle.dss_reader.specs.declared.AllMeasured.{AllMeasured}
-use Rattle.dss_reader.specs.inner.MeasuredAll.{all_measured}
 
 -- behind so many frames with so much payload
 abbrev pub adds_all : ℕ → ℕ → Result AllMeasured Refused → Result AllMeasured Refused
-adds_all k n (Ok (all_measured count bytes end)) = Ok (all_measured (k + count) (n + bytes) end)
+adds_all k n (Ok m) = Ok (all_measured (k + m.count) (n + m.bytes) m.end)
 adds_all k n (Err r) = Err r
 
 -- ---- laws
 
 pub adds_none : (a : Result AllMeasured Refused) → a ≡ adds_all 0 0 a
-adds_none (Ok (all_measured count bytes end)) = ap₂ (λ (x y : ℕ). Ok (all_measured x y end)) (omega arith) (omega arith)
+adds_none (Ok m) = ap₂ (λ (x y : ℕ). Ok (all_measured x y m.end)) (omega arith) (omega arith)
 adds_none (Err r) = refl
 
 adds_adds : (k n k' n' : ℕ) (a : Result AllMeasured Refused) → adds_all k n (adds_all k' n' a) ≡ adds_all (k + k') (n + n') a
-adds_adds k n k' n' (Ok (all_measured count bytes end)) = ap₂ (λ (x y : ℕ). Ok (all_measured x y end)) (sym (add_assoc k k' count)) (sym (add_assoc n n' bytes))
+adds_adds k n k' n' (Ok m) = ap₂ (λ (x y : ℕ). Ok (all_measured x y m.end)) (sym (add_assoc k k' m.count)) (sym (add_assoc n n' m.bytes))
 adds_adds k n k' n' (Err r) = refl
 
 measured_before : (s : List ℕ) (f : Frame) (a : AllRead) → all_measured_of s (before f a) ≡ adds_all 1 (length (payload_of s f.segments)) (all_measured_of s a)
@@ -62,26 +61,3 @@ module _ (s : List ℕ) (p k n : ℕ) where
   pub all_refused : (r : Refused) → read_at Reader s p ≡ refused r → not_whole r.why ≡ false → adds_all k n (measured_frames s p) ≡ Err r
   unfolding measured_frames
   all_refused r e i = ap (λ (a : AllRead). adds_all k n (all_measured_of s a)) (frames_refused s p r e i)
-
--- what an answer says of the reading that it is of
-pub record Counted (s : List ℕ) (p count bytes end : ℕ) : Type 0 where
-  pub read : List Frame
-  pub is : all_frames s p ≡ frames read end
-  pub counted : length read ≡ count
-  pub long : length (payloads_of s read) ≡ bytes
-
-pub all_counted : (s : List ℕ) (p count bytes end : ℕ) → measured_frames s p ≡ Ok (all_measured count bytes end) → Counted s p count bytes end
-unfolding measured_frames
-all_counted s p count bytes end e = of_read (all_frames s p) refl e
-  where
-    of_read : (a : AllRead) → all_frames s p ≡ a → all_measured_of s a ≡ Ok (all_measured count bytes end) → Counted s p count bytes end
-    of_read (frames fs q) i k = let z : q ≡ end = cc in record { read = fs; is = i ∙ ap (frames fs) z; counted = cc; long = cc }
-    of_read (refused_all r) i k = let z : ◌≡◌ {A = ℕ} 0 1 = cc in absurd (omega arith)
-
-pub all_not : (s : List ℕ) (p : ℕ) (x : Refused) → measured_frames s p ≡ Err x → all_frames s p ≡ refused_all x
-unfolding measured_frames
-all_not s p x e = of_read (all_frames s p) e
-  where
-    of_read : (a : AllRead) → all_measured_of s a ≡ Err x → a ≡ refused_all x
-    of_read (frames fs q) k = let z : ◌≡◌ {A = ℕ} 0 1 = cc in absurd (omega arith)
-    of_read (refused_all r) k = cc

@@ -18,6 +18,7 @@ use Rattle.dss_frame.specs.Segments.{payload_of, end_of}
 use Rattle.dss_frame.specs.Reading.{Frame, Read, frame, refused, read_at}
 use Rattle.dss_frame.specs.Frames.{AllRead, frames, refused_all, before, and_on, all_frames}
 use Rattle.dss_frame.specs.FrameRecords.{payloads_of}
+use Rattle.dss_frame.specs.declared.DssFrame.{DssFrame}
 use Rattle.dss_laws.proofs.Bounds.{OfFrame, is_frame, is_refused, Past, read_past}
 use Rattle.dss_laws.proofs.FramesLaws.{frames_step, frames_more}
 use Rattle.dss_measure.specs.declared.FrameMeasure.{FrameMeasure}
@@ -45,10 +46,13 @@ module _ (s : List ℕ) (p : ℕ) where
         room_is = w.room_is;
       }
 
+  abbrev not_read : Refused → DssReader → Result DssFrame Refused × DssReader
+  not_read x d = (Err x, d)
+
   -- a refusal, with the reader that it leaves
   pub next_refused : (room : List ℕ) (x : Refused) (d : DssReader) (r : Result FrameMeasure Refused) (after : List ℕ) → Takes Reader s p room r after → r ≡ Err x → d ≡ left_at p x
       → NextFrame s p room (Err x, d) after
-  next_refused room x d r after w e i = record { answers = ap (⟪NotRead⟫ x) i ∙ (next_is room (Err x) r after w e).answers; room_is = w.room_is }
+  next_refused room x d r after w e i = record { answers = ap (not_read x) i ∙ (next_is room (Err x) r after w e).answers; room_is = w.room_is }
 
 -- ---- what taking says of the frame
 

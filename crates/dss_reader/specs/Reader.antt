@@ -93,5 +93,5 @@ pub record GathersFrames (s : List ℕ) (p : ℕ) (room : List ℕ) (rows : ℕ)
 
 -- how many records an answer has
 abbrev pub records_in : Result FramesRead Refused × DssReader → ℕ
-records_in (Ok (frames_read count bytes), reader) = count
+records_in (Ok m, reader) = m.count
 records_in (Err r, reader) = 0

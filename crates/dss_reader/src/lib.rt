@@ -4,15 +4,14 @@
 ghost use Rattle.std.specs.Prelude.{◌≡◌, ◌-◌, length};
 ghost use Rattle.wire.specs.Bytes.{splice};
 ghost use Rattle.wire.specs.Parts.{RestAt};
-ghost use Rattle.answer.specs.Rooms.{no_room};
 ghost use Rattle.dss_frame.specs.Frames.{all_frames};
 ghost use Rattle.dss_reader.specs.Reader.{stands_at, left_at, frame_end, is_end, NextFrame, given_frames, ReadAllFrames, GathersFrames, records_in};
-ghost use Rattle.dss_reader.specs.inner.MeasuredAll.{measured_frames};
+ghost use Rattle.dss_reader.specs.inner.MeasuredAll.{measured_frames, fitting_frames};
 ghost use Rattle.dss_reader.specs.inner.TakingAll.{all_payloads, FitsAll};
 
 use answer::{Refusal, Refused};
 use dss_frame::{DssFrame, Rules};
-use dss_measure::{Extent, Measured, Walked};
+use dss_measure::Extent;
 
 // A reader's state: its place in the run. The run is lent with each call, and a longer one at the same position extends it.
 #[derive(Clone, Copy)]
@@ -20,106 +19,81 @@ pub struct DssReader {
     pub position: usize,
 }
 
-// What looking for a frame's end comes to: the byte after its last, or the refusal.
+// What was read of all frames: how many records stand in the row, and how many bytes in the room.
 #[derive(Clone, Copy)]
-pub enum FrameEnd {
-    End(usize),
-    Refused(Refused),
+pub struct FramesRead {
+    pub count: usize,
+    pub bytes: usize,
 }
 
-// What reading a frame comes to, with the state after it.
+// All frames, measured: how many they are, how many bytes their payloads have, and where the reading ended.
 #[derive(Clone, Copy)]
-pub enum FrameRead {
-    Frame(DssFrame, DssReader),
-    Refused(Refused, DssReader),
+pub struct AllMeasured {
+    pub count: usize,
+    pub bytes: usize,
+    pub end: usize,
 }
 
-// What reading all frames comes to: how many records stand in the row and how many bytes in the room, and the state after.
-#[derive(Clone, Copy)]
-pub enum FramesRead {
-    Frames {
-        count: usize,
-        bytes: usize,
-        reader: DssReader,
-    },
-    Refused(Refused, DssReader),
-}
-
-// What measuring all frames comes to: how many they are, how many bytes their payloads have, and where the reading ended.
-#[derive(Clone, Copy)]
-pub enum AllMeasured {
-    Frames {
-        count: usize,
-        bytes: usize,
-        end: usize,
-    },
-    Refused(Refused),
-}
-
-// The end of the frame at a place of a run: refusals 10, 1 or 16.
-pub(crate) fn frame_end(run: &[u8], at: usize) -> FrameEnd
+// The end of the frame at a place of a run, the byte after its last: refusals 10, 1 or 16.
+pub(crate) fn frame_end(run: &[u8], at: usize) -> Result<usize, Refused>
     ensures { result ≡ frame_end run.now at }
 {
     if run.len() < at {
-        return FrameEnd::Refused(Refused::out_of_bounds(at, run.len()));
+        return Err(Refused::out_of_bounds(at, run.len()));
     }
-    match dss_measure::walk_frame(Rules::Reader, run, at) {
-        Walked::Whole {
-            end,
-            segments: _,
-            payload_len: _,
-        } => FrameEnd::End(end),
-        Walked::Short => {
-            let why = Refusal::Incomplete;
-            FrameEnd::Refused(Refused { why, place: at })
-        }
-        Walked::Dead(place) => {
-            let why = Refusal::DeadContinuation;
-            FrameEnd::Refused(Refused { why, place })
-        }
-    }
+    let walked = dss_measure::walk_frame(Rules::Reader, run, at)?;
+    Ok(walked.end)
 }
 
 // Where a refusal leaves a reader that stood at a place.
 pub(crate) fn left_at(at: usize, refused: Refused) -> DssReader
     ensures { result ≡ left_at at refused }
 {
-    let why = refused.why;
-    if why.number() == 16 {
-        return DssReader { position: at };
-    }
-    DssReader {
-        position: refused.place,
-    }
+    let position = match refused.why {
+        Refusal::DeadContinuation => at,
+        _ => refused.place,
+    };
+    DssReader { position }
 }
 
 // All frames from a place on: reads until 1 or 16. Every other refusal but 9.
-pub(crate) fn measure_all(run: &[u8], from: usize) -> AllMeasured
+pub(crate) fn measure_all(run: &[u8], from: usize) -> Result<AllMeasured, Refused>
     ensures { result ≡ measured_frames run.now «from» }
 {
-    let mut at = from;
     let mut count = 0;
     let mut bytes = 0;
+    let mut end = from;
     loop {
-        match dss_measure::measure_extent(Rules::Reader, run, at) {
-            Extent::Refused(refused) => {
-                let why = refused.why;
-                if why.not_whole() {
-                    return AllMeasured::Frames {
-                        count,
-                        bytes,
-                        end: at,
-                    };
-                }
-                return AllMeasured::Refused(refused);
-            }
-            Extent::Frame { payload_len, end } => {
+        match dss_measure::measure_extent(Rules::Reader, run, end) {
+            Ok(extent) => {
                 count += 1;
-                bytes += payload_len;
-                at = end;
+                bytes += extent.payload_len;
+                end = extent.end;
+            }
+            Err(refused) => {
+                if refused.why.not_whole() {
+                    return Ok(AllMeasured { count, bytes, end });
+                }
+                return Err(refused);
             }
         }
     }
+}
+
+// The same, with 9 where the payloads don't fit a room of so many bytes or the records a row of so many.
+pub(crate) fn measure_fitting(
+    run: &[u8],
+    at: usize,
+    size: usize,
+    rows: usize,
+) -> Result<AllMeasured, Refused>
+    ensures { result ≡ fitting_frames run.now at size rows }
+{
+    let all = measure_all(run, at)?;
+    if size < all.bytes || rows < all.count {
+        return Err(Refused::no_room(all.bytes, all.count, at));
+    }
+    Ok(all)
 }
 
 // The payloads of all frames from a place on, end to end at the room's start.
@@ -129,82 +103,53 @@ pub(crate) fn take_all(run: &[u8], from: usize, room: &mut [u8])
 {
     let mut at = from;
     let mut mark = 0;
-    loop {
-        match dss_take::take(Rules::Reader, run, at, &mut room[mark..]) {
-            Measured::Refused(_) => {
-                return;
-            }
-            Measured::Frame(measure) => {
-                mark += measure.payload_len;
-                at = measure.end;
-            }
-        }
+    while let Ok(measure) = dss_take::take(Rules::Reader, run, at, &mut room[mark..]) {
+        mark += measure.payload_len;
+        at = measure.end;
     }
 }
 
-// 9, with the position where it was.
-pub(crate) fn no_room(at: usize, bytes: usize, records: usize) -> FramesRead
-    ensures { result ≡ ⟪FramesRead⟫.Refused (no_room at bytes records) (stands_at at) }
-{
-    let refused = Refused::no_room(bytes, records, at);
-    FramesRead::Refused(refused, DssReader { position: at })
-}
-
-// What reading all frames from a place on answers, for a room of so many bytes and a row of so many records: all refusals, 9
-// last. Touches nothing.
-pub fn measure_frames(run: &[u8], at: usize, size: usize, rows: usize) -> FramesRead
+// What reading all frames from a place on answers, for a room of so many bytes and a row of so many records, with the state
+// after: all refusals, 9 last. Touches nothing.
+pub fn measure_frames(
+    run: &[u8],
+    at: usize,
+    size: usize,
+    rows: usize,
+) -> (Result<FramesRead, Refused>, DssReader)
     ensures { result ≡ given_frames run.now at size rows (all_frames run.now at) }
 {
-    match measure_all(run, at) {
-        AllMeasured::Refused(refused) => {
-            let reader = left_at(at, refused);
-            FramesRead::Refused(refused, reader)
+    match measure_fitting(run, at, size, rows) {
+        Ok(AllMeasured { count, bytes, end }) => {
+            (Ok(FramesRead { count, bytes }), DssReader { position: end })
         }
-        AllMeasured::Frames { count, bytes, end } => {
-            if size < bytes {
-                return no_room(at, bytes, count);
-            }
-            if rows < count {
-                return no_room(at, bytes, count);
-            }
-            FramesRead::Frames {
-                count,
-                bytes,
-                reader: DssReader { position: end },
-            }
-        }
+        Err(refused) => (Err(refused), left_at(at, refused)),
     }
 }
 
 // The same, and the payloads in the room where all fits.
-pub fn gather_frames(run: &[u8], at: usize, room: &mut [u8], rows: usize) -> FramesRead
+pub fn gather_frames(
+    run: &[u8],
+    at: usize,
+    room: &mut [u8],
+    rows: usize,
+) -> (Result<FramesRead, Refused>, DssReader)
     ensures { GathersFrames run.now at room.old rows result room.new }
 {
     let read = measure_frames(run, at, room.len(), rows);
-    match read {
-        FramesRead::Refused(_, _) => read,
-        FramesRead::Frames {
-            count: _,
-            bytes: _,
-            reader: _,
-        } => {
-            take_all(run, at, room);
-            read
-        }
+    if read.0.is_ok() {
+        take_all(run, at, room);
     }
+    read
 }
 
 // How many records an answer has.
-pub fn records_in(read: FramesRead) -> usize
+pub fn records_in(read: (Result<FramesRead, Refused>, DssReader)) -> usize
     ensures { result ≡ records_in read }
 {
-    match read {
-        FramesRead::Frames {
-            count,
-            bytes: _,
-            reader: _,
-        } => count,
-        FramesRead::Refused(_, _) => 0,
+    match read.0 {
+        Ok(found) => found.count,
+        Err(_) => 0,
     }
 }
 
@@ -219,27 +164,19 @@ impl DssReader {
     pub fn remaining(self, run: &[u8]) -> usize
         ensures { result ≡ length run.now - self.position }
     {
-        let at = self.position;
-        if run.len() <= at {
-            return 0;
-        }
-        run.len() - at
+        run.len().saturating_sub(self.position)
     }
 
     // The bytes that aren't read yet. Of a position beyond the run it is the empty part at the run's end.
     pub fn into_remaining(self, run: &[u8]) -> &[u8]
         ensures { RestAt run.entry self.position result }
     {
-        let at = self.position;
-        if at <= run.len() {
-            return &run[at..];
-        }
-        let end = run.len();
-        &run[end..end]
+        let at = self.position.min(run.len());
+        &run[at..]
     }
 
     // The byte after the last of the frame at the position.
-    pub fn complete_frame_len(self, run: &[u8]) -> FrameEnd
+    pub fn complete_frame_len(self, run: &[u8]) -> Result<usize, Refused>
         ensures { result ≡ frame_end run.now self.position }
     {
         frame_end(run, self.position)
@@ -248,39 +185,38 @@ impl DssReader {
     pub fn has_complete_frame(self, run: &[u8]) -> bool
         ensures { result ≡ is_end (frame_end run.now self.position) }
     {
-        match frame_end(run, self.position) {
-            FrameEnd::End(_) => true,
-            FrameEnd::Refused(_) => false,
-        }
+        frame_end(run, self.position).is_ok()
     }
 
     // The byte after the last of the first frame of a run.
-    pub fn first_complete_frame_len(run: &[u8]) -> FrameEnd
+    pub fn first_complete_frame_len(run: &[u8]) -> Result<usize, Refused>
         ensures { result ≡ frame_end run.now 0 }
     {
         frame_end(run, 0)
     }
 
-    // The next frame, its payload at the room's start: all refusals, 9 last.
-    pub fn next_frame(self, run: &[u8], room: &mut [u8]) -> FrameRead
+    // The next frame, its payload at the room's start, with the state after: all refusals, 9 last.
+    pub fn next_frame(self, run: &[u8], room: &mut [u8]) -> (Result<DssFrame, Refused>, DssReader)
         ensures { NextFrame run.now self.position room.old result room.new }
     {
         match dss_take::take(Rules::Reader, run, self.position, room) {
-            Measured::Frame(measure) => {
+            Ok(measure) => {
                 let frame = measure.record(self.position, 0);
                 let position = measure.end;
-                FrameRead::Frame(frame, DssReader { position })
+                (Ok(frame), DssReader { position })
             }
-            Measured::Refused(refused) => {
-                let reader = left_at(self.position, refused);
-                FrameRead::Refused(refused, reader)
-            }
+            Err(refused) => (Err(refused), left_at(self.position, refused)),
         }
     }
 
     // All frames from the position on, until one isn't whole, yet or ever: their payloads end to end in the room, their records in
-    // the row.
-    pub fn read_all_frames(self, run: &[u8], room: &mut [u8], row: &mut [DssFrame]) -> FramesRead
+    // the row. With the state after.
+    pub fn read_all_frames(
+        self,
+        run: &[u8],
+        room: &mut [u8],
+        row: &mut [DssFrame],
+    ) -> (Result<FramesRead, Refused>, DssReader)
         ensures { ReadAllFrames run.now self.position room.old row.old result room.new row.new }
     {
         let at = self.position;

@@ -13,35 +13,35 @@ use Rattle.dss_reader.proofs.measure_all.Goals as goal
 pub returns-then-not_whole : goal.returns-then-not_whole
 returns-then-not_whole c =
     sym
-    (c.loop-refused.invariant.2
-    ∙ all_end _ _ _ _ _ (measured_not Reader _ _ _ (not_spanned _ _ (sym c.in-Refused.ensures))) (sym c.not_whole.ensures ∙ c.if-not_whole.true))
+    (c.loop-extent.invariant.2
+    ∙ all_end _ _ _ _ _ (measured_not Reader _ _ _ (not_spanned _ _ (sym c.in-Err.ensures))) (sym c.not_whole.ensures ∙ c.if-not_whole.true))
 
-pub returns-in-Refused : goal.returns-in-Refused
-returns-in-Refused c =
+pub returns-in-Err : goal.returns-in-Err
+returns-in-Err c =
     sym
-    (c.loop-refused.invariant.2
-    ∙ all_refused _ _ _ _ _ (measured_not Reader _ _ _ (not_spanned _ _ (sym c.in-Refused.ensures))) (sym c.not_whole.ensures ∙ c.if-not_whole.false))
+    (c.loop-extent.invariant.2
+    ∙ all_refused _ _ _ _ _ (measured_not Reader _ _ _ (not_spanned _ _ (sym c.in-Err.ensures))) (sym c.not_whole.ensures ∙ c.if-not_whole.false))
 
 pub overflow_add-count : goal.overflow_add-count
 overflow_add-count c =
-    let x : Spanned c.in-Frame.payload_len c.in-Frame.end (measured_at Reader c.args.run.now c.loop-refused.at) = spanned _ _ _ (sym c.in-Frame.ensures) in
+    let x : Spanned c.in-Ok.extent.payload_len c.in-Ok.extent.end (measured_at Reader c.args.run.now c.loop-extent.end) = spanned _ _ _ (sym c.in-Ok.ensures) in
     omega (arith, measures Reader _ _ _ x.is, x)
 
 pub overflow_add-bytes : goal.overflow_add-bytes
 overflow_add-bytes c =
-    let x : Spanned c.in-Frame.payload_len c.in-Frame.end (measured_at Reader c.args.run.now c.loop-refused.at) = spanned _ _ _ (sym c.in-Frame.ensures) in
+    let x : Spanned c.in-Ok.extent.payload_len c.in-Ok.extent.end (measured_at Reader c.args.run.now c.loop-extent.end) = spanned _ _ _ (sym c.in-Ok.ensures) in
     omega (arith, measures Reader _ _ _ x.is, x)
 
-pub loop-refused-smaller : goal.loop-refused-smaller
-loop-refused-smaller c =
-    let x : Spanned c.in-Frame.payload_len c.in-Frame.end (measured_at Reader c.args.run.now c.loop-refused.at) = spanned _ _ _ (sym c.in-Frame.ensures) in
+pub loop-extent-smaller : goal.loop-extent-smaller
+loop-extent-smaller c =
+    let x : Spanned c.in-Ok.extent.payload_len c.in-Ok.extent.end (measured_at Reader c.args.run.now c.loop-extent.end) = spanned _ _ _ (sym c.in-Ok.ensures) in
     omega (arith, measures Reader _ _ _ x.is, x)
 
-pub loop-refused-preserved : goal.loop-refused-preserved
-loop-refused-preserved c =
-    let x = spanned _ _ _ (sym c.in-Frame.ensures) in
+pub loop-extent-preserved : goal.loop-extent-preserved
+loop-extent-preserved c =
+    let x = spanned _ _ _ (sym c.in-Ok.ensures) in
     let w = measures Reader _ _ _ x.is in
-    let l = c.loop-refused in (
+    let l = c.loop-extent in (
       omega (arith, w, x),
       omega (arith, w, x),
       l.invariant.2

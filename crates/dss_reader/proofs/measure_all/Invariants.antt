@@ -7,8 +7,8 @@ use Rattle.dss_reader.specs.inner.MeasuredAll.{measured_frames}
 use Rattle.dss_reader.proofs.MeasuredFrames.{adds_all}
 use Rattle.dss_reader.proofs.measure_all.Given as goal
 
-abbrev pub invariant-loop-refused : goal.invariant-loop-refused
-invariant-loop-refused l = (l.count ≤ l.at) × (l.bytes ≤ l.at) × (measured_frames l.run l.from ≡ adds_all l.count l.bytes (measured_frames l.run l.at))
+abbrev pub invariant-loop-extent : goal.invariant-loop-extent
+invariant-loop-extent l = (l.count ≤ l.end) × (l.bytes ≤ l.end) × (measured_frames l.run l.from ≡ adds_all l.count l.bytes (measured_frames l.run l.end))
 
-abbrev pub decreases-loop-refused : goal.decreases-loop-refused
-decreases-loop-refused l = length l.run - l.at
+abbrev pub decreases-loop-extent : goal.decreases-loop-extent
+decreases-loop-extent l = length l.run - l.end

@@ -3,11 +3,11 @@ use native.Mathlib.Omega.{arith}
 use Rattle.dss_reader.proofs.TakingFrames.{taking_more, taking_past, taking_done}
 use Rattle.dss_reader.proofs.take_all.Goals as goal
 
-pub returns-in-Refused : goal.returns-in-Refused
-returns-in-Refused c = taking_done c.loop-measure.invariant _ _ c.take.result c.take.ensures c.in-Refused.is
-
 pub loop-measure-smaller : goal.loop-measure-smaller
-loop-measure-smaller c = omega (arith, taking_past c.loop-measure.invariant _ _ c.take.result c.take.ensures c.in-Frame.is)
+loop-measure-smaller c = omega (arith, taking_past c.loop-measure.invariant _ _ c.take.result c.take.ensures c.in-Ok.is)
 
 pub loop-measure-preserved : goal.loop-measure-preserved
-loop-measure-preserved c = taking_more c.loop-measure.invariant _ _ c.take.result c.take.ensures c.in-Frame.is
+loop-measure-preserved c = taking_more c.loop-measure.invariant _ _ c.take.result c.take.ensures c.in-Ok.is
+
+pub returns : goal.returns
+returns c = taking_done c.loop-measure.invariant _ _ c.take.result c.take.ensures c.in_default.is
