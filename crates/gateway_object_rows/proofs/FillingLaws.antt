@@ -3,7 +3,6 @@ use Rattle.std.specs.Prelude.{Result, Ok, Err}
 use Prim.Native.Nat.{ℕ, suc, ◌+◌, ◌*◌, ◌-◌, ◌≤◌, ◌<◌}
 use native.Mathlib.Omega.{arith}
 use mathlib.Core.Path.{◌≡◌, refl, sym, ◌∙◌, ap, ap₂}
-use mathlib.Core.Bool.{Bool}
 use mathlib.Core.List.{List, [], ◌∷◌, ◌++◌, append_assoc, append-nil}
 use borrow.Author.Tests.{le-leb, leb-true}
 use lib.Dec.{leb}
@@ -15,17 +14,16 @@ use Rattle.wire.proofs.Splicing.{splice_none, splice_splice, splice_length, laid
 use Rattle.answer.specs.Rooms.{no_room}
 use Rattle.answer.specs.declared.Refused.{Refused}
 use Rattle.ddm_length.proofs.LentData.{lent_laid}
-use Rattle.ddm_object.specs.Objects.{AllParsed, objects, refused_all}
+use Rattle.ddm_object.specs.Objects.{Object, AllParsed, objects, refused_all, parameters}
 use Rattle.ddm_rows.specs.ListCalls.{works_of, object_records, objects_fit, given_list, listed}
 use Rattle.ddm_object.specs.ObjectCalls.{param_step_at}
-use Rattle.ddm_rows.specs.ObjectRows.{walked_as, count_of, TakesWork}
+use Rattle.ddm_rows.specs.ObjectRows.{count_of, TakesWork}
 use Rattle.ddm_rows.specs.inner.RowsFilled.{one_more_object, recs_from}
-use Rattle.ddm_rows.proofs.ObjectRowLaws.{recs_records, walked_parameters}
+use Rattle.ddm_rows.proofs.ObjectRowLaws.{recs_records}
 use Rattle.ddm_object.specs.declared.DdmObject.{DdmObject}
-use Rattle.gateway_words.specs.AnswerWords.{Answered}
 use Rattle.gateway_object.specs.ObjectWords.{object_words}
-use Rattle.gateway_object_rows.specs.ListWords.{object_len, list_words, list_row, records}
-use Rattle.gateway_object_rows.specs.inner.Listed.{ListsWordsAs}
+use Rattle.gateway_object_rows.specs.ListWords.{object_len, list_row, records, ListsWords}
+use Rattle.gateway_object_rows.specs.inner.Listed.{ListedWords}
 use Rattle.ddm_rows.specs.declared.ObjectsFound.{ObjectsFound}
 use Rattle.ddm_rows.specs.ListCalls.{objects_found}
 
@@ -111,7 +109,7 @@ module _ (s : List ℕ) (n : ℕ) (row : List ℕ) (i at : ℕ) (now : List ℕ)
 
 -- ---- work area and row together
 
-none_met : (s row : List ℕ) → splice row 0 (list_row (recs_from 0 s 0)) ≡ row
+pub none_met : (s row : List ℕ) → splice row 0 (list_row (recs_from 0 s 0)) ≡ row
 unfolding recs_from list_row
 none_met s row = splice_none row 0
 
@@ -120,10 +118,11 @@ unfolding works_of object_records list_row
 none_landed s size rows row =
     pick_yes _ _ (and_both (leb 0 size) (leb 0 rows) (le-leb 0 size (omega arith)) (le-leb 0 rows (omega arith))) ∙ splice_none row 0
 
-module _ (whole : Bool) (s work row : List ℕ) (r : Result ObjectsFound Refused) (zw : List ℕ) (t : TakesWork s (walked_as whole s) work (records row) r zw) where
+-- x is what was listed, and where it is objects they are the parameters
+module _ (s : List ℕ) (x : AllParsed) (all : (os : List Object) → x ≡ objects os → parameters s ≡ os) (work row : List ℕ) (r : Result ObjectsFound Refused) (zw : List ℕ) (t : TakesWork s x work (records row) r zw) where
   -- an answer's records fit the row
   pub count_fits : count_of r * object_len ≤ length row
-  count_fits = rw t.answers (go (walked_as whole s))
+  count_fits = rw t.answers (go x)
     where
       go : (x : AllParsed) → count_of (given_list s (length work) (records row) x) * object_len ≤ length row
       go (objects os) =
@@ -132,13 +131,13 @@ module _ (whole : Bool) (s work row : List ℕ) (r : Result ObjectsFound Refused
           (λ f. omega arith)
       go (refused_all y) = omega arith
 
-  row_landed : (x : AllParsed) → walked_as whole s ≡ x → (zr : List ℕ) → r ≡ given_list s (length work) (records row) x
+  row_landed : (y : AllParsed) → x ≡ y → (zr : List ℕ) → r ≡ given_list s (length work) (records row) y
       → zr ≡ splice row 0 (list_row (recs_from (count_of r) s 0))
-      → zr ≡ landed (objects_fit s (listed x) (length work) (records row)) row (list_row (object_records s 0 (listed x)))
+      → zr ≡ landed (objects_fit s (listed y) (length work) (records row)) row (list_row (object_records s 0 (listed y)))
   row_landed (objects os) w zr a f =
       by (objects_fit s os (length work) (records row))
       (λ k. let c : count_of r ≡ length os = ap count_of (a ∙ pick_yes _ _ k) in
-      let e : recs_from (count_of r) s 0 ≡ object_records s 0 os = ap (λ (n : ℕ). recs_from n s 0) c ∙ recs_records s os 0 (walked_parameters whole s os w) in
+      let e : recs_from (count_of r) s 0 ≡ object_records s 0 os = ap (λ (n : ℕ). recs_from n s 0) c ∙ recs_records s os 0 (all os w) in
       f ∙ ap (λ (l : List DdmObject). splice row 0 (list_row l)) e ∙ sym (pick_yes _ _ k))
       (λ k. let c : count_of r ≡ 0 = ap count_of (a ∙ pick_no _ _ k) in
       f ∙ ap (λ (n : ℕ). splice row 0 (list_row (recs_from n s 0))) c ∙ none_met s row ∙ sym (pick_no _ _ k))
@@ -146,7 +145,7 @@ module _ (whole : Bool) (s work row : List ℕ) (r : Result ObjectsFound Refused
       let c : count_of r ≡ 0 = ap count_of a in
       f ∙ ap (λ (n : ℕ). splice row 0 (list_row (recs_from n s 0))) c ∙ none_met s row ∙ sym (none_landed s (length work) (records row) row)
 
-  pub lists_words : (words : List ℕ) (n : ℕ) (zr after : List ℕ) → zr ≡ splice row 0 (list_row (recs_from (count_of r) s 0)) → Answered (list_words r) words n after
-      → ListsWordsAs whole s work row words n zw zr after
-  lists_words words n zr after f a =
-      record { answers = rw (← t.answers) a; room_is = t.work_is; row_is = row_landed (walked_as whole s) refl zr t.answers f }
+  pub lists_words : (words : List ℕ) (n : ℕ) (zr after : List ℕ) → ListedWords s r row words n zr after
+      → ListsWords s (listed x) (λ size rows. given_list s size rows x) work row words n zw zr after
+  lists_words words n zr after k =
+      record { answers = rw (← t.answers) k.answers; room_is = t.work_is; row_is = row_landed x refl zr t.answers k.row_is }

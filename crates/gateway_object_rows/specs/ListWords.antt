@@ -9,11 +9,10 @@ use Rattle.gateway_words.specs.AnswerWords.{answer_len, refusal_words, done_word
 use Rattle.gateway_object.specs.ObjectWords.{object_words}
 use Rattle.ddm_rows.specs.declared.ObjectsFound.{ObjectsFound}
 use Rattle.answer.specs.declared.Refused.{Refused}
-use Rattle.ddm_rows.specs.ListCalls.{objects_found}
 
 -- how many records stand in the row, and how many bytes of the work area are filled
 abbrev pub list_words : Result ObjectsFound Refused → List ℕ
-list_words (Ok (objects_found count work)) = done_words count work 0 0
+list_words (Ok f) = done_words f.count f.work 0 0
 list_words (Err r) = refusal_words r
 
 -- the words of records, one behind the other

@@ -1,14 +1,12 @@
--- `gateway_object_rows::list` meets its contract: the work area as it was filled, the row as it was filled, and the words that say so.
-use Rattle.gateway_object_rows.proofs.FillingLaws.{count_fits, lists_words}
+-- `gateway_object_rows::list` meets its contract: the row as it was filled, and the words that say so.
+use mathlib.Core.Path.{sym}
+use Rattle.gateway_object_rows.proofs.FillingLaws.{none_met}
 use Rattle.gateway_object_rows.proofs.list.Goals as goal
 
-pub fill-requires : goal.fill-requires
-fill-requires c =
-    let a = c.args in
-    rw c.count_of-n.ensures (count_fits a.whole a.«data».now a.work.now a.row.now _ _ c.take_as-found.ensures)
+pub returns-in-Ok : goal.returns-in-Ok
+returns-in-Ok c =
+    rw c.in-Ok.is (record { answers = c.put_done.ensures; row_is = c.fill.ensures })
 
-pub returns : goal.returns
-returns c =
-    let a = c.args in
-    let filled = rw c.count_of-n.ensures at c.fill.ensures in
-    lists_words a.whole a.«data».now a.work.now a.row.now _ _ c.take_as-found.ensures _ _ _ _ filled c.put_list.ensures
+pub returns-in-Err : goal.returns-in-Err
+returns-in-Err c =
+    rw c.in-Err.is (record { answers = c.put_refusal.ensures; row_is = sym (none_met c.args.«data».now c.args.row.now) })

@@ -1,8 +1,13 @@
--- What the loop that lays records of objects down as words leaves in the row.
-use Rattle.std.specs.Prelude.{ℕ, Bool, List}
-use Rattle.ddm_rows.specs.ListCalls.{given_list, listed}
-use Rattle.ddm_rows.specs.ObjectRows.{walked_as}
-use Rattle.gateway_object_rows.specs.ListWords.{ListsWords}
+-- What is left in words and row once it is known what was found.
+use Rattle.std.specs.Prelude.{ℕ, ◌≡◌, List, Result}
+use Rattle.wire.specs.Bytes.{splice}
+use Rattle.answer.specs.declared.Refused.{Refused}
+use Rattle.ddm_rows.specs.declared.ObjectsFound.{ObjectsFound}
+use Rattle.ddm_rows.specs.ObjectRows.{count_of}
+use Rattle.ddm_rows.specs.inner.RowsFilled.{recs_from}
+use Rattle.gateway_words.specs.AnswerWords.{Answered}
+use Rattle.gateway_object_rows.specs.ListWords.{list_words, list_row}
 
-abbrev pub ListsWordsAs : Bool → List ℕ → List ℕ → List ℕ → List ℕ → ℕ → List ℕ → List ℕ → List ℕ → Type 0
-ListsWordsAs whole s = ListsWords s (listed (walked_as whole s)) (λ size rows. given_list s size rows (walked_as whole s))
+pub record ListedWords (s : List ℕ) (found : Result ObjectsFound Refused) (row words : List ℕ) (r : ℕ) (rowAfter wordsAfter : List ℕ) : Type 0 where
+  pub answers : Answered (list_words found) words r wordsAfter
+  pub row_is : rowAfter ≡ splice row 0 (list_row (recs_from (count_of found) s 0))
