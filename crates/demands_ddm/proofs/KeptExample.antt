@@ -1,6 +1,7 @@
 -- One request, through all calls: the premises of Kept's theorems are met, by computation. Two parameters are added, the object is
 -- built, read back at place 2 of a run, its parameters are listed, and one is found; first in words, then in records.
-use Rattle.std.specs.Prelude.{Ok}
+use Rattle.std.specs.Prelude.{Result, Ok}
+use Rattle.answer.specs.declared.Refused.{Refused}
 use Prim.Native.Nat.{ℕ, ◌≤◌}
 use native.Mathlib.Omega.{arith}
 use mathlib.Core.Path.{◌≡◌, refl}
@@ -133,7 +134,7 @@ module _ (κ₂ : Lfts 2) (κ₃ : Lfts 3) (κ₄ : Lfts 4) where
       call (call no_call κ₂ 0x2110 (lent (0xC1 ∷ [])) (lent_room (replicate 10 9)) (builder 5) one refl (record { answers = refl; room_is = refl }))
       κ₂ 0x112F (lent []) (lent_room one) (builder 9) both refl (record { answers = refl; room_is = refl })
 
-  pub read_by_calls : (Ok 13 ≡ Ok (length (built 0x1041 (built_all params)))) × InRoom 0x1041 (built_all params) (replicate 14 9) object
+  pub read_by_calls : (◌≡◌ {A = Result ℕ Refused} (Ok 13) (Ok (length (built 0x1041 (built_all params))))) × InRoom 0x1041 (built_all params) (replicate 14 9) object
       × ReadsAs 0x1041 (built_all params) run 2 (built_header (built_all params)) [] (Ok (plain 2 0x1041 4 9)) []
   unfolding lent lent_room params both object run built length_bytes last laid splice object_at parsed measured marshaled
   read_by_calls =

@@ -198,5 +198,5 @@ ends_at_once_not t = go (t.ends_there ((0, []) ∷ []) (omega arith, omega arith
     s : List ℕ
     s = built_all ((0, []) ∷ [])
 
-    go : {at to : ℕ} {x : ℕ × List ℕ} {l : List (ℕ × List ℕ)} → WalkGives (λ at cp d next. StepGives s cp d next (Err (end_at at))) (λ at. Err (end_at at) ≡ Err (end_at at)) at (x ∷ l) to → ⊥
+    go : {at to : ℕ} {x : ℕ × List ℕ} {l : List (ℕ × List ℕ)} → WalkGives (λ at cp d next. StepGives s cp d next (Err (end_at at))) (λ at. ◌≡◌ {A = Result (DdmObject × ℕ) Refused} (Err (end_at at)) (Err (end_at at))) at (x ∷ l) to → ⊥
     go (given g w) = let e = g.is in let z : ◌≡◌ {A = ℕ} 0 1 = cc in omega arith
