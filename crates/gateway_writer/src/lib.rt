@@ -9,7 +9,7 @@ ghost use Rattle.dss_head.specs.declared.DssType.TheVariants.{Request as asReque
 ghost use Rattle.dss_frame.specs.Written.{written, frame_size};
 ghost use Rattle.dss_writer.specs.Writer.{fresh_writer, next_correlation};
 ghost use Rattle.gateway_words.specs.AnswerWords.{Answered, LaysInWords};
-ghost use Rattle.gateway_writer.specs.WriterWords.{writer_of, frame_of, yes, wrote_words, mark_first, Sends};
+ghost use Rattle.gateway_writer.specs.WriterWords.{writer_of, frame_of, yes, wrote_words, mark_first, flags_given, Sends};
 
 use answer::Refused;
 use dss_head::{DssFlags, DssType};
@@ -43,6 +43,17 @@ pub(crate) fn mark_first(fill: usize, size: usize, refused: Refused) -> Refused
     }
 }
 
+// A frame's flags; continue on error is never set.
+pub(crate) fn flags_given(chained: u8, same_correlation: bool) -> DssFlags
+    ensures { result ≡ flags_given chained same_correlation }
+{
+    DssFlags {
+        chained: chained > 0,
+        continue_on_error: false,
+        same_correlation,
+    }
+}
+
 // Writes a frame of a type that was found, or lays down why there is none. Of the flags, continue on error is never set.
 pub(crate) fn send(
     writer: DssWriter,
@@ -55,15 +66,13 @@ pub(crate) fn send(
     ensures { Sends found writer (frame_of writer.correlation_id flags.chained flags.same_correlation payload.now) room.old words.old result room.new words.new }
 {
     let wrote = match found {
-        Ok(dss_type) => {
-            writer.write_dss_full(
-                dss_type,
-                flags.chained,
-                flags.same_correlation,
-                payload,
-                room,
-            )
-        }
+        Ok(dss_type) => writer.write_dss_full(
+            dss_type,
+            flags.chained,
+            flags.same_correlation,
+            payload,
+            room,
+        ),
         Err(refused) => Err(mark_first(writer.fill, room.len(), refused)),
     };
     put_wrote(words, wrote)
@@ -127,10 +136,7 @@ pub fn lattrugone_write_dss(
         fill,
     };
     let found = DssType::from_byte(dss_type);
-    let flags = DssFlags {
-        chained: chained > 0,
-        ..DssFlags::none()
-    };
+    let flags = flags_given(chained, false);
     send(writer, found, flags, payload, room, words)
 }
 
@@ -148,10 +154,7 @@ pub fn lattrugone_write_request(
         correlation_id,
         fill,
     };
-    let flags = DssFlags {
-        chained: chained > 0,
-        ..DssFlags::none()
-    };
+    let flags = flags_given(chained, false);
     send(writer, Ok(DssType::Request), flags, payload, room, words)
 }
 
@@ -169,10 +172,7 @@ pub fn lattrugone_write_request_no_reply(
         correlation_id,
         fill,
     };
-    let flags = DssFlags {
-        chained: chained > 0,
-        ..DssFlags::none()
-    };
+    let flags = flags_given(chained, false);
     send(writer, Ok(DssType::NoReply), flags, payload, room, words)
 }
 
@@ -190,10 +190,7 @@ pub fn lattrugone_write_object(
         correlation_id,
         fill,
     };
-    let flags = DssFlags {
-        chained: chained > 0,
-        ..DssFlags::none()
-    };
+    let flags = flags_given(chained, false);
     send(writer, Ok(DssType::Object), flags, payload, room, words)
 }
 
@@ -211,12 +208,8 @@ pub fn lattrugone_write_object_same_corr(
         correlation_id,
         fill,
     };
-    let flags = DssFlags {
-        chained: chained > 0,
-        same_correlation: true,
-        ..DssFlags::none()
-    };
-    send(writer, Ok(DssType::Object), flags, payload, room, words)
+    let shared = flags_given(chained, true);
+    send(writer, Ok(DssType::Object), shared, payload, room, words)
 }
 
 pub fn lattrugone_write_request_next_same_corr(
@@ -233,12 +226,8 @@ pub fn lattrugone_write_request_next_same_corr(
         correlation_id,
         fill,
     };
-    let flags = DssFlags {
-        chained: chained > 0,
-        same_correlation: true,
-        ..DssFlags::none()
-    };
-    send(writer, Ok(DssType::Request), flags, payload, room, words)
+    let shared = flags_given(chained, true);
+    send(writer, Ok(DssType::Request), shared, payload, room, words)
 }
 
 // ---- a frame at the room's first byte. The result: how many bytes were laid down.
