@@ -1,11 +1,11 @@
--- `show::read_input` meets its contract: what a read gave stands behind what was read before.
+-- `show::read_full` meets its contract: what a read gave stands behind what was read before.
 use Rattle.std.proofs.Common.{◌≡◌, ℕ, ◌+◌, ◌-◌, ◌≤◌, List, ◌++◌, rules, arith, length, take, slice_range, sym, ap, ◌∙◌, subst, le_refl, drop_at, length-take-le}
 use Rattle.std.proofs.lemmas.Slice.{take-put_mid_below}
 use Rattle.std.specs.Io.KnownBytes.{Consumes}
 use Rattle.std.proofs.KnownBytes.{Consumes-trans}
 use borrow.Rule.Slice.PartMut.{put_mid, post_of}
 use lib.Seq.{take-add, take-append-le}
-use Rattle.show.proofs.read_input.Goals as goal
+use Rattle.show.proofs.read_full.Goals as goal
 
 take_split : (a b : ℕ) (old new : List ℕ) → a ≤ b → take a new ≡ take a old → take a old ++ slice_range new a b ≡ take b new
 take_split a b old new h front =
@@ -22,7 +22,10 @@ pub loop-count-preserved : goal.loop-count-preserved
 loop-count-preserved g c =
     let from = c.loop-count.count in
     let room = length c.loop-count.buf - from in
-    let within = c.loop-count.invariant.1 in
+    let within = c.loop-count.invariant.within in
     let part = slice_range-put_mid from room c.in-Ok.more c.loop-count.buf c.read.new.buf within c.in-Ok.ensures.bound.0 in
     let joined = take_split from (from + c.in-Ok.more) c.loop-count.buf (put_mid from room c.loop-count.buf c.read.new.buf) (omega arith) (take-put_mid_below _ _ _ _ _ (le_refl _) within) in
-    (search rules, search rules, subst (Consumes _ _) (ap (λ l. take from c.loop-count.buf ++ l) (sym part) ∙ joined) (Consumes-trans _ _ _ _ _ c.loop-count.invariant.2 c.in-Ok.ensures.bytes.0))
+    record {
+      within = search rules;
+      bytes = subst (Consumes _ _) (ap (λ l. take from c.loop-count.buf ++ l) (sym part) ∙ joined) (Consumes-trans _ _ _ _ _ c.loop-count.invariant.bytes c.in-Ok.ensures.bytes.0);
+    }
