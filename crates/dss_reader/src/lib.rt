@@ -11,7 +11,6 @@ ghost use Rattle.dss_reader.specs.inner.TakingAll.{all_payloads, FitsAll};
 
 use answer::{Refusal, Refused};
 use dss_frame::{DssFrame, Rules};
-use dss_measure::Extent;
 
 // A reader's state: its place in the run. The run is lent with each call, and a longer one at the same position extends it.
 #[derive(Clone, Copy)]

@@ -8,29 +8,22 @@ ghost use Rattle.dss_reader.specs.Reader.{frame_end, is_end};
 ghost use Rattle.gateway_words.specs.AnswerWords.{Answered};
 ghost use Rattle.gateway_reader.specs.ReaderWords.{end_words, frame_words, ReadsFrame};
 
-use dss_reader::{DssReader, FrameEnd, FrameRead};
-use gateway_words::{put_done, put_refusal};
-
-// A frame's end, or why there is none.
-pub(crate) fn put_end(words: &mut [u64], found: FrameEnd) -> u8
-    ensures { Answered (end_words found) words.old result words.new }
-{
-    match found {
-        FrameEnd::End(end) => put_done(words, end as u64, 0, 0, 0),
-        FrameEnd::Refused(refused) => put_refusal(words, refused),
-    }
-}
+use answer::Refused;
+use dss_frame::DssFrame;
+use dss_reader::DssReader;
+use gateway_words::{put_laid, put_refusal};
 
 // A frame and the position behind it, or why none was read.
-pub(crate) fn put_frame(words: &mut [u64], read: FrameRead) -> u8
+pub(crate) fn put_frame(words: &mut [u64], read: (Result<DssFrame, Refused>, DssReader)) -> u8
     ensures { Answered (frame_words read) words.old result words.new }
 {
-    match read {
-        FrameRead::Frame(frame, reader) => {
+    let (found, reader) = read;
+    match found {
+        Ok(frame) => {
             gateway_row::put_frame(words, reader.position, frame.at, frame);
             0
         }
-        FrameRead::Refused(refused, _) => put_refusal(words, refused),
+        Err(refused) => put_refusal(words, refused),
     }
 }
 
@@ -47,7 +40,7 @@ pub fn lattrugone_has_frame(run: &[u8], at: usize) -> u8
     ensures { result ≡ pick (is_end (frame_end run.now at)) 1 0 }
 {
     let reader = DssReader { position: at };
-    if reader.has_complete_frame(run) { 1 } else { 0 }
+    u8::from(reader.has_complete_frame(run))
 }
 
 // ---- the frame's end. The result: the byte after its last.
@@ -56,15 +49,13 @@ pub fn lattrugone_frame_end(run: &[u8], at: usize, words: &mut [u64]) -> u8
     ensures { Answered (end_words (frame_end run.now at)) words.old result words.new }
 {
     let reader = DssReader { position: at };
-    let found = reader.complete_frame_len(run);
-    put_end(words, found)
+    put_laid(words, reader.complete_frame_len(run))
 }
 
 pub fn lattrugone_first_frame_end(run: &[u8], words: &mut [u64]) -> u8
     ensures { Answered (end_words (frame_end run.now 0)) words.old result words.new }
 {
-    let found = DssReader::first_complete_frame_len(run);
-    put_end(words, found)
+    put_laid(words, DssReader::first_complete_frame_len(run))
 }
 
 // ---- one frame, its payload at the room's first byte. In the place's word the position behind it; the result: length, the
