@@ -134,13 +134,6 @@ module _ (s work : List ℕ) (ys : List DdmObject) where
       })
       (λ b q. absurd (let z : ◌≡◌ {A = ℕ} 0 1 = cc in omega arith))
 
-  -- it doesn't fit, and nothing is filled
-  pub lists_none : (r : Refused) (zw : List ℕ) → TakesWork s (objects (parameters s)) work (length ys) (Err r) zw → ListsParameters s work ys (Err r) zw ys
-  lists_none r zw t =
-      picked fit (sym t.answers)
-      (λ b q. absurd (let z : ◌≡◌ {A = ℕ} 0 1 = cc in omega arith))
-      (λ b q. record { answers = t.answers; work_is = t.work_is; row_is = sym (pick_no _ _ b) })
-
   -- all objects of a run are refused whole
   pub lists_refused : (r : Refused) → measured_objects s (all_objects s) ≡ Err r → ParsesObjects s work ys (Err r) work ys
   lists_refused r e = go (all_objects s) e

@@ -2,14 +2,8 @@
 use native.Mathlib.Omega.{arith}
 use mathlib.Core.Path.{sym}
 use Rattle.ddm_object.proofs.ObjectRecords.{record_of, refused_of, record_next}
-use Rattle.ddm_object.proofs.FindingParams.{looking_start, looking_step, looking_found, looking_end}
+use Rattle.ddm_object.proofs.FindingParams.{looking_step, looking_found, looking_end}
 use Rattle.ddm_object.proofs.find_place.Goals as goal
-
-pub loop-o-init : goal.loop-o-init
-loop-o-init c = looking_start _ _
-
-pub record_at-requires : goal.record_at-requires
-record_at-requires c = c.loop-o.invariant.within
 
 pub returns-then-o-code_point : goal.returns-then-o-code_point
 returns-then-o-code_point c =

@@ -13,10 +13,6 @@ overflow_add-work c =
     let w = walking_step _ _ _ _ c.loop-o.invariant _ _ (step_of _ _ _ _ (sym c.in-Ok.ensures)) in
     omega (arith, c.work_len-work.ensures, w.small, w.within)
 
-pub overflow_add-count : goal.overflow_add-count
-overflow_add-count c =
-    omega (arith, c.loop-o.invariant.few, c.loop-o.invariant.within)
-
 pub loop-o-smaller : goal.loop-o-smaller
 loop-o-smaller c =
     let f = step_of _ _ _ _ (sym c.in-Ok.ensures) in

@@ -1,19 +1,10 @@
 -- `gateway_object_rows::fill` meets its contract. The invariant: so many records are met, and stand in the row.
-use native.Mathlib.Omega.{arith}
 use mathlib.Core.Path.{sym}
-use Rattle.gateway_object_rows.proofs.FillingLaws.{filling_start, filling_room, filling_step, filling_ends, filling_done}
+use Rattle.gateway_object_rows.proofs.FillingLaws.{filling_start, filling_step, filling_ends, filling_done}
 use Rattle.gateway_object_rows.proofs.fill.Goals as goal
 
 pub loop-i-init : goal.loop-i-init
 loop-i-init c = filling_start _ _ _ c.requires
-
-pub overflow_mul-i : goal.overflow_mul-i
-overflow_mul-i c =
-    omega (arith, c.loop-i.invariant.fits, c.loop-i-test.true)
-
-pub slice_bounds-put_object-start : goal.slice_bounds-put_object-start
-slice_bounds-put_object-start c =
-    omega (arith, filling_room _ _ _ _ _ _ c.loop-i.invariant c.loop-i-test.true)
 
 pub loop-i-preserved : goal.loop-i-preserved
 loop-i-preserved c =

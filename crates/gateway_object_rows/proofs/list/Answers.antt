@@ -3,10 +3,6 @@ use mathlib.Core.Path.{sym}
 use Rattle.gateway_object_rows.proofs.FillingLaws.{none_met}
 use Rattle.gateway_object_rows.proofs.list.Goals as goal
 
-pub returns-in-Ok : goal.returns-in-Ok
-returns-in-Ok c =
-    rw c.in-Ok.is (record { answers = c.put_done.ensures; row_is = c.fill.ensures })
-
 pub returns-in-Err : goal.returns-in-Err
 returns-in-Err c =
     rw c.in-Err.is (record { answers = c.put_refusal.ensures; row_is = sym (none_met c.args.«data».now c.args.row.now) })

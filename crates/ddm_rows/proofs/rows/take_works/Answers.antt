@@ -1,20 +1,13 @@
 -- `ddm_rows::rows::take_works` meets its contract. The invariant: nothing passed so far goes through the work area.
 use Prim.Native.Nat.{◌+◌}
 use native.Mathlib.Omega.{arith}
-use mathlib.Core.Path.{refl, sym, ◌∙◌, ap, ap₂}
-use lib.ListN.{length}
+use mathlib.Core.Path.{sym, ◌∙◌, ap, ap₂}
 use Rattle.wire.specs.Bytes.{laid}
 use Rattle.ddm_length.specs.Markers.{unmarked}
 use Rattle.wire.proofs.LentParts.{tail_drop}
 use Rattle.ddm_object.proofs.FindingParams.{step_of}
-use Rattle.ddm_rows.proofs.ObjectWorks.{seeking_start, seeking_step, seeking_found, seeking_end}
+use Rattle.ddm_rows.proofs.ObjectWorks.{seeking_step, seeking_found, seeking_end}
 use Rattle.ddm_rows.proofs.rows.take_works.Goals as goal
-
-pub loop-o-init : goal.loop-o-init
-loop-o-init c = (seeking_start _, refl)
-
-pub overflow_add-at : goal.overflow_add-at
-overflow_add-at c = let f = step_of _ _ _ _ (sym c.in-Ok.ensures) in omega (arith, f.on, f.within)
 
 pub returns-then-o : goal.returns-then-o
 returns-then-o c =
@@ -34,9 +27,6 @@ pub loop-o-preserved : goal.loop-o-preserved
 loop-o-preserved c =
     let l = c.loop-o in
     (seeking_step _ _ l.invariant.0 _ _ (step_of _ _ _ _ (sym c.in-Ok.ensures)) c.if-o.false, l.invariant.1)
-
-pub shape_of-work : goal.shape_of-work
-shape_of-work c = ap length c.loop-o.invariant.1
 
 pub returns : goal.returns
 returns c =
