@@ -103,6 +103,8 @@ pub fn decide_continuation(raw_length: u16) -> Chunk
     }
 }
 
+// `from_byte` and `to_byte`, here and of the flags, and no `TryFrom` and `From`: they are the Rust's names, and what calls the
+// Rust calls these.
 impl DssType {
     // The type in a format byte's low four bits: refusal 3.
     pub fn from_byte(b: u8) -> Result<DssType, Refused>

@@ -1,5 +1,6 @@
 // Writing frames into lent room: document 01, module 2; the Rust's `DssWriter`. The state goes in by value and comes back,
-// and the room is lent to each call.
+// and the room is lent to each call: nothing is allocated, and C keeps both. So the fill mark stands in the state, and no `Vec`.
+// The public functions have the Rust's names and parameters, one for each kind of frame; each is one call of a more general one.
 #![tactic(auto)]
 
 ghost use Rattle.std.specs.Prelude.{◌+◌, ◌≤◌, ◌≡◌, true, false, ◌++◌, length};
@@ -39,6 +40,7 @@ pub(crate) fn raw_length(payload_len: usize) -> u16
     ensures { result ≡ raw_length_of payload_len }
 {
     if payload_len <= DSS_FIRST_PAYLOAD_LEN {
+        // `as` here and below, and no `try_from`: it is proved to fit, and there is no refusal for what can't be.
         (payload_len + DSS_HEADER_LEN) as u16
     } else {
         DSS_CONTINUED

@@ -1,5 +1,5 @@
 // How a frame goes to C and Rust: in eight words. A row of records is lent as words, ten a record, one behind the other. The
-// crates of the port's functions for C call this.
+// crates of the port's functions for C call this. A `usize` goes into a word by `as`: Rust has no `From` for it.
 #![tactic(auto)]
 
 ghost use Rattle.std.specs.Prelude.{◌≡◌};

@@ -1,5 +1,5 @@
 // How an answer goes to C and Rust: in eight words, document 01's number, the place, then a refusal's values or the result's
-// numbers. The crates of the port's functions for C call these.
+// numbers. The crates of the port's functions for C call these. A `usize` goes into a word by `as`: Rust has no `From` for it.
 #![tactic(auto)]
 
 ghost use Rattle.std.specs.Prelude.{◌≡◌, [], ◌∷◌};

@@ -91,7 +91,8 @@ pub fn lattrugone_next_correlation_id(id: u16) -> u16
     DssWriter::new(id).next_correlation_id().correlation_id
 }
 
-// ---- a frame from the fill mark on. The result: the correlation, and the fill mark behind the frame.
+// ---- a frame from the fill mark on. The result: the correlation, and the fill mark behind the frame. The functions' names and
+// parameters are C's; `send` is what they share.
 
 // Of the flags' byte, 0x40 is chained and 0x10 same correlation; continue on error is never set.
 pub fn lattrugone_write_dss_full(
@@ -230,7 +231,7 @@ pub fn lattrugone_write_request_next_same_corr(
     send(writer, Ok(DssType::Request), shared, payload, room, words)
 }
 
-// ---- a frame at the room's first byte. The result: how many bytes were laid down.
+// ---- a frame at the room's first byte. The result: how many bytes were laid down. The names are C's; each is one call.
 
 pub fn lattrugone_build_dss_request(
     correlation_id: u16,
