@@ -1,1 +1,2 @@
 pub mod WriterWords
+pub mod inner

@@ -1,11 +1,10 @@
 -- Module 2 for a caller in C or Rust: a frame to be written, of numbers and bytes, and what its writing answers in words and
 -- leaves in the lent room.
-use Rattle.std.specs.Prelude.{ℕ, Bool, false, List, ltb, leb, length, Result, Ok, Err}
+use Rattle.std.specs.Prelude.{ℕ, Bool, List, ltb, leb, length, Result, Ok, Err}
 use Rattle.wire.specs.Bytes.{pick, laid}
 use Rattle.answer.specs.Rooms.{out_of_bounds}
 use Rattle.answer.specs.declared.Refused.{Refused}
 use Rattle.dss_head.specs.declared.DssType.{DssType}
-use Rattle.dss_head.specs.declared.DssFlags.{DssFlags}
 use Rattle.dss_frame.specs.Written.{Sent, written}
 use Rattle.dss_writer.specs.Writer.{sent, wrote}
 use Rattle.dss_writer.specs.declared.DssWriter.{DssWriter}
@@ -24,10 +23,6 @@ frame_of correlation chained same payload t = sent correlation t chained same pa
 -- yes or no as a byte: 0 is no
 abbrev pub yes : ℕ → Bool
 yes b = ltb 0 b
-
--- a frame's flags: "Continue on error is never set"
-abbrev pub flags_given : ℕ → Bool → DssFlags
-flags_given chained same = record { chained = yes chained; continue_on_error = false; same_correlation = same }
 
 -- ---- a frame from the fill mark on
 

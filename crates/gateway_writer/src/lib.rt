@@ -9,7 +9,8 @@ ghost use Rattle.dss_head.specs.declared.DssType.TheVariants.{Request as asReque
 ghost use Rattle.dss_frame.specs.Written.{written, frame_size};
 ghost use Rattle.dss_writer.specs.Writer.{fresh_writer, next_correlation};
 ghost use Rattle.gateway_words.specs.AnswerWords.{Answered, LaysInWords};
-ghost use Rattle.gateway_writer.specs.WriterWords.{writer_of, frame_of, yes, wrote_words, mark_first, flags_given, Sends};
+ghost use Rattle.gateway_writer.specs.WriterWords.{writer_of, frame_of, yes, wrote_words, mark_first, Sends};
+ghost use Rattle.gateway_writer.specs.inner.GivenFlags.{flags_given};
 
 use answer::Refused;
 use dss_head::{DssFlags, DssType};
