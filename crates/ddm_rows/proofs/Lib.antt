@@ -3,3 +3,4 @@ pub mod ObjectLists
 pub mod ObjectRowLaws
 pub mod ObjectWorks
 pub mod Unique
+pub mod ListedAs

@@ -105,11 +105,11 @@ recs_records s (o ∷ os) at e = go (parsed (drop at s) at) refl (λ next h. rec
         absurd (let w : ◌≡◌ {A = ℕ} 0 1 = cc in omega arith)
 
 -- records laid down at a row's start, and none
-from_start : (ys l : List DdmObject) → splice ys 0 l ≡ l ++ drop (length l) ys
+pub from_start : (ys l : List DdmObject) → splice ys 0 l ≡ l ++ drop (length l) ys
 unfolding splice
 from_start ys l = let z : 0 + length l ≡ length l = omega arith in ap (λ (n : ℕ). l ++ drop n ys) z
 
-none_landed : (s : List ℕ) (size : ℕ) (ys : List DdmObject) → landed (objects_fit s [] size (length ys)) ys (object_records s 0 []) ≡ ys
+pub none_landed : (s : List ℕ) (size : ℕ) (ys : List DdmObject) → landed (objects_fit s [] size (length ys)) ys (object_records s 0 []) ≡ ys
 unfolding works_of object_records
 none_landed s size ys =
     pick_yes _ _ (and_both (leb 0 size) (leb 0 (length ys)) (le-leb 0 size (omega arith)) (le-leb 0 (length ys) (omega arith))) ∙ from_start ys []

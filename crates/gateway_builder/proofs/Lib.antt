@@ -1,2 +1,3 @@
+pub mod BuilderAnswers
 pub mod Cases
 pub mod Unique
