@@ -19,6 +19,7 @@ pub(crate) fn take_works(data: &[u8], work: &mut [u8])
     let mut at: usize = 0;
     while let Ok((o, next)) = ddm_object::step_at(data, at) {
         if o.in_work {
+            // nothing is laid down where there is no room
             let _ = ddm_length::strip_extended_ddm_continuation_markers(&data[at + 4..], work);
             return;
         }

@@ -52,7 +52,8 @@ pub(crate) fn list(
     }
 }
 
-// The result: how many records stand in the row, and how many bytes of the work area are filled.
+// The result: how many records stand in the row, and how many bytes of the work area are filled. They stay two functions: C has a
+// name for each.
 
 // All objects of a run.
 pub fn lattrugone_objects(run: &[u8], work: &mut [u8], row: &mut [u64], words: &mut [u64]) -> u8
