@@ -18,14 +18,12 @@ use Rattle.dss_frame.specs.Segments.{payload_of, end_of}
 use Rattle.dss_frame.specs.Reading.{Frame, Read, frame, refused, read_at}
 use Rattle.dss_frame.specs.Frames.{AllRead, frames, refused_all, before, and_on, all_frames}
 use Rattle.dss_frame.specs.FrameRecords.{payloads_of}
-use Rattle.dss_frame.specs.declared.DssFrame.{DssFrame}
 use Rattle.dss_laws.proofs.Bounds.{OfFrame, is_frame, is_refused, Past, read_past}
 use Rattle.dss_laws.proofs.FramesLaws.{frames_step, frames_more}
 use Rattle.dss_measure.specs.declared.FrameMeasure.{FrameMeasure}
 use Rattle.dss_measure.specs.Measure.{measure_of, measured_of, measured_at}
 use Rattle.dss_take.specs.Take.{taken_of, room_read, Takes}
-use Rattle.dss_reader.specs.declared.DssReader.{DssReader}
-use Rattle.dss_reader.specs.Reader.{left_at, given_frame, read_of, NextFrame}
+use Rattle.dss_reader.specs.Reader.{given_frame, read_of, NextFrame}
 use Rattle.dss_reader.specs.inner.TakingAll.{all_payloads, FitsAll}
 
 -- ---- one frame
@@ -45,14 +43,6 @@ module _ (s : List ℕ) (p : ℕ) where
         answers = ap (read_of p) (sym e ∙ w.answers) ∙ read_is (length room) (read_at Reader s p);
         room_is = w.room_is;
       }
-
-  abbrev not_read : Refused → DssReader → Result DssFrame Refused × DssReader
-  not_read x d = (Err x, d)
-
-  -- a refusal, with the reader that it leaves
-  pub next_refused : (room : List ℕ) (x : Refused) (d : DssReader) (r : Result FrameMeasure Refused) (after : List ℕ) → Takes Reader s p room r after → r ≡ Err x → d ≡ left_at p x
-      → NextFrame s p room (Err x, d) after
-  next_refused room x d r after w e i = record { answers = ap (not_read x) i ∙ (next_is room (Err x) r after w e).answers; room_is = w.room_is }
 
 -- ---- what taking says of the frame
 
@@ -250,10 +240,3 @@ pub taking_empty : {s whole room : List ℕ} {at mark : ℕ} (w : TakingAll s wh
 unfolding payloads_of
 taking_empty {s} {whole} {room} {at} {mark} w e =
     sym (w.same ∙ ap (λ (l : List Frame). splice room mark (payloads_of s l)) (no_frames w.left e) ∙ splice_none room mark)
-
--- the mark lies inside the room, which has the bytes of the one that is to come
-pub taking_inside : {s whole room : List ℕ} {at mark : ℕ} → TakingAll s whole room at mark → mark ≤ length room
-taking_inside w = omega (arith, w.fits)
-
-pub taking_length : {s whole room : List ℕ} {at mark : ℕ} → TakingAll s whole room at mark → length whole ≡ length room
-taking_length {s} {whole} {room} {at} {mark} w = ap length w.same ∙ splice_length room mark (payloads_of s w.left) w.fits

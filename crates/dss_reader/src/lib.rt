@@ -184,7 +184,7 @@ impl DssReader {
     pub fn has_complete_frame(self, run: &[u8]) -> bool
         ensures { result ≡ is_end (frame_end run.now self.position) }
     {
-        frame_end(run, self.position).is_ok()
+        self.complete_frame_len(run).is_ok()
     }
 
     // The byte after the last of the first frame of a run.

@@ -2,11 +2,8 @@
 use Rattle.std.specs.Prelude.{Option, Some, None}
 use Prim.Native.Nat.{ℕ, zero, suc, ◌+◌, ◌-◌, ◌≤◌}
 use native.Mathlib.Omega.{arith}
-use mathlib.Core.Path.{◌≡◌, refl, sym, ap, ◌∙◌, subst}
-use mathlib.Core.Bool.{Bool, true, false}
-use Rattle.wire.specs.Bytes.{pick}
+use mathlib.Core.Path.{◌≡◌, refl, sym, ap, ◌∙◌}
 use mathlib.Core.List.{List, [], ◌∷◌}
-use lib.Dec.{eqb}
 use lib.ListN.{length}
 use borrow.Author.Tests.{eq-eqb, ne_eqb}
 use Rattle.wire.proofs.WireLaws.{pick_yes, pick_no, picked}
@@ -17,15 +14,13 @@ use Rattle.dss_frame.specs.Frames.{AllRead, frames, refused_all, before, and_on,
 use Rattle.dss_frame.specs.FrameRecords.{frame_record, frame_records}
 use Rattle.dss_frame.specs.declared.DssFrame.{DssFrame}
 use Rattle.dss_frame.specs.declared.Rules.TheVariants.{Reader}
-use Rattle.dss_laws.proofs.Bounds.{OfFrame, is_frame, is_refused}
 use Rattle.dss_laws.proofs.FramesLaws.{frames_step}
 use Rattle.dss_measure.specs.declared.FrameMeasure.{FrameMeasure}
 use Rattle.dss_measure.specs.Measure.{measured_record}
 use Rattle.dss_frame.specs.declared.RowPlace.{RowPlace}
-use Rattle.dss_laws.proofs.Thin.{Thin, read_thin}
 use Rattle.dss_measure.proofs.Measures.{Measures}
 use Rattle.dss_row.specs.inner.FrameRows.{found_of, record_at, records_from}
-use Rattle.dss_row.specs.inner.RowRecords.{one_more, PlaceKept}
+use Rattle.dss_row.specs.inner.RowRecords.{one_more}
 use Rattle.dss_row.proofs.RowRecordsLaws.{laid_step, laid_full}
 
 -- ---- one record
@@ -47,22 +42,6 @@ module _ (s : List ℕ) (x : RowPlace) where
       record_read (frame w.whole) h w.reads
       ∙ ap (λ (y : FrameMeasure). Some (measured_record x.at x.payload_at y, record { at = y.end; payload_at = x.payload_at + y.payload_len; left = x.left - 1 }))
       w.same
-
--- a place behind a record lies no further into the room than into the run, if that before it does
-pub place_kept : (s : List ℕ) (x : RowPlace) → x.payload_at ≤ x.at → PlaceKept (record_at s x)
-unfolding record_at
-place_kept s x h = of_test (eqb x.left 0)
-  where
-    of_read : (a : Read) → OfFrame (λ (f : Frame). Thin s x.at f.segments) a → PlaceKept (found_of s x a)
-    of_read a (is_frame f k) = omega arith
-    of_read a (is_refused w) = tt
-
-    of_test : (b : Bool) → PlaceKept (pick b None (found_of s x (read_at Reader s x.at)))
-    of_test true = tt
-    of_test false = of_read (read_at Reader s x.at) (read_thin Reader s x.at)
-
-pub found_low : (s : List ℕ) (x : RowPlace) (r : DssFrame) (next : RowPlace) → x.payload_at ≤ x.at → Some (r, next) ≡ record_at s x → next.payload_at ≤ next.at
-found_low s x r next h e = subst PlaceKept (sym e) (place_kept s x h)
 
 -- ---- a row of them
 

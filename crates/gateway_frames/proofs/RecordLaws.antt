@@ -70,9 +70,6 @@ module _ (s start aim row : List ℕ) (p a n k : ℕ) (l : LaysRecords s start a
     pub lays_low : a + m.payload_len ≤ m.end
     lays_low = omega (arith, l.low, w.thin)
 
-    pub lays_there : m.end ≤ length s
-    lays_there = w.there
-
     one_left : words_from s p a k ≡ record_words (measured_record p a m) ++ words_from s m.end (a + m.payload_len) (k - 1)
     one_left =
         ap (λ (j : ℕ). joined record_words (records_from j s (row_placed p a k))) (some h)
@@ -119,12 +116,6 @@ module _ {s whole start aim room row : List ℕ} {p a n k : ℕ} (w : TakingReco
       measured : measured_at Reader s p ≡ Ok m
       measured = taking_measured w.payloads t m r i e
 
-      pub taking_low : a + m.payload_len ≤ m.end
-      taking_low = lays_low s start aim row p a n k w.records m h measured
-
-      pub taking_there : m.end ≤ length s
-      taking_there = lays_there s start aim row p a n k w.records m h measured
-
       -- and its record is laid into the part of the row that is its own, which comes back as u
       pub taking_one : (u : List ℕ) → u ≡ laid (part_of row n (n + record_len)) 0 (record_words (measured_record p a m))
           → TakingRecords s whole start aim (back room a t) (back_part row n (n + record_len) u) m.end (a + m.payload_len) (n + record_len) (k - 1)
@@ -134,6 +125,12 @@ module _ {s whole start aim room row : List ℕ} {p a n k : ℕ} (w : TakingReco
             counted = omega (arith, taking_fewer w.payloads t m r i e, w.counted);
             records = lays_more s start aim row p a n k w.records m h measured u j;
           }
+
+-- the same, of equal numbers
+pub taking_at : {s whole start aim room row : List ℕ} {p a : ℕ} (n n' k k' : ℕ) → n ≡ n' → k ≡ k'
+    → TakingRecords s whole start aim room row p a n k → TakingRecords s whole start aim room row p a n' k'
+taking_at {s} {whole} {start} {aim} {room} {row} {p} {a} n n' k k' e f w =
+    subst (λ (m : ℕ). TakingRecords s whole start aim room row p a m k') e (subst (λ (j : ℕ). TakingRecords s whole start aim room row p a n j) f w)
 
 -- ---- the whole row
 

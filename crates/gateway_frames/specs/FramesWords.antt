@@ -9,12 +9,11 @@ use Rattle.gateway_row.specs.RowWords.{record_words, places}
 use Rattle.dss_reader.specs.declared.DssReader.{DssReader}
 use Rattle.dss_reader.specs.declared.FramesRead.{FramesRead}
 use Rattle.answer.specs.declared.Refused.{Refused}
-use Rattle.dss_reader.specs.Reader.{frames_read}
 
 -- frames: 0, the position behind them, how many they are, how many bytes their payloads have. A refusal's place is the position
 -- that it leaves
 abbrev pub frames_words : Result FramesRead Refused × DssReader → List ℕ
-frames_words (Ok (frames_read count bytes), reader) = 0 ∷ reader.position ∷ count ∷ bytes ∷ 0 ∷ 0 ∷ 0 ∷ 0 ∷ []
+frames_words (Ok m, reader) = 0 ∷ reader.position ∷ m.count ∷ m.bytes ∷ 0 ∷ 0 ∷ 0 ∷ 0 ∷ []
 frames_words (Err r, reader) = refusal_words r
 
 -- "Frames land in a lent row of frame records": the records' words at the row's start where all that the call lays down fits

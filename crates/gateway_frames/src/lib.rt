@@ -6,9 +6,9 @@ ghost use Rattle.gateway_words.specs.AnswerWords.{Answered};
 ghost use Rattle.gateway_frames.specs.FramesWords.{frames_words, ReadsAllFrames};
 ghost use Rattle.gateway_frames.specs.inner.LaidRecords.{Asks, TakenRecord};
 
+use answer::Refused;
 use dss_frame::Rules;
-use dss_measure::Measured;
-use dss_reader::FramesRead;
+use dss_reader::{DssReader, FramesRead};
 use gateway_row::{RECORD_WORDS, put_record};
 use gateway_words::{put_refusal, put_words};
 
@@ -20,41 +20,30 @@ pub(crate) fn take_frames(run: &[u8], from: usize, count: usize, room: &mut [u8]
 {
     let mut at = from;
     let mut payload_at = 0;
-    let mut filled = 0;
-    let mut left = count;
-    while 0 < left {
-        match dss_take::take(Rules::Reader, run, at, &mut room[payload_at..]) {
-            Measured::Refused(_) => {
-                return;
-            }
-            Measured::Frame(measure) => {
-                let record = measure.record(at, payload_at);
-                let next = filled + RECORD_WORDS;
-                put_record(&mut row[filled..next], record);
-                at = measure.end;
-                payload_at += measure.payload_len;
-                filled = next;
-                left -= 1;
-            }
-        }
+    for i in 0..count {
+        let Ok(measure) = dss_take::take(Rules::Reader, run, at, &mut room[payload_at..]) else {
+            return;
+        };
+        let record = measure.record(at, payload_at);
+        let filled = i * RECORD_WORDS;
+        put_record(&mut row[filled..filled + RECORD_WORDS], record);
+        at = measure.end;
+        payload_at += measure.payload_len;
     }
 }
 
 // How many frames were read and how many bytes their payloads have, with the position behind them; or why none were.
-pub(crate) fn put_frames(words: &mut [u64], read: FramesRead) -> u8
+pub(crate) fn put_frames(words: &mut [u64], read: (Result<FramesRead, Refused>, DssReader)) -> u8
     ensures { Answered (frames_words read) words.old result words.new }
 {
-    match read {
-        FramesRead::Frames {
-            count,
-            bytes,
-            reader,
-        } => {
+    let (found, reader) = read;
+    match found {
+        Ok(FramesRead { count, bytes }) => {
             let position = reader.position as u64;
-            put_words(words, 0, position, count as u64, bytes as u64, 0, 0, 0, 0);
+            put_words(words, [0, position, count as u64, bytes as u64, 0, 0, 0, 0]);
             0
         }
-        FramesRead::Refused(refused, _) => put_refusal(words, refused),
+        Err(refused) => put_refusal(words, refused),
     }
 }
 
@@ -69,15 +58,8 @@ pub fn lattrugone_read_all_frames(
     ensures { ReadsAllFrames run.now at room.old row.old words.old result room.new row.new words.new }
 {
     let read = dss_reader::measure_frames(run, at, room.len(), row.len() / RECORD_WORDS);
-    match read {
-        FramesRead::Frames {
-            count,
-            bytes: _,
-            reader: _,
-        } => {
-            take_frames(run, at, count, room, row);
-            put_frames(words, read)
-        }
-        FramesRead::Refused(_, _) => put_frames(words, read),
+    if let Ok(found) = read.0 {
+        take_frames(run, at, found.count, room, row);
     }
+    put_frames(words, read)
 }
