@@ -13,12 +13,11 @@ use Rattle.answer.specs.declared.Refused.{Refused}
 use Rattle.dss_head.specs.Heads.{head_at}
 use Rattle.dss_head.specs.declared.DssHeader.{DssHeader}
 use Rattle.dss_frame.specs.declared.Rules.TheVariants.{Reader}
-use Rattle.dss_frame.specs.Segments.{Segment, Walk, whole, short, dead, frame_walk, end_of}
-use Rattle.dss_measure.specs.inner.Walking.{walked_of, walked_at}
-use Rattle.dss_measure.specs.declared.Walked.TheVariants.{Whole, Short, Dead as DeadAt}
+use Rattle.dss_frame.specs.Segments.{Segment, Walk, whole, short, dead, payload_of, frame_walk, end_of}
+use Rattle.dss_measure.specs.declared.Walked.{Walked}
+use Rattle.dss_measure.specs.inner.Walking.{walked, walked_of, walked_at}
 use Rattle.ddm_change.specs.Alone.{alone_at, alone_walk, alone_head}
-use Rattle.ddm_change.specs.inner.Planning.{alone_of}
-use Rattle.ddm_change.specs.inner.Planning.{alone}
+use Rattle.ddm_change.specs.inner.Planning.{alone, alone_of}
 
 module _ (s : List ℕ) where
   -- the frame at the start is in bounds
@@ -26,41 +25,34 @@ module _ (s : List ℕ) where
   unfolding alone_at
   alone_as = pick_yes _ _ (le-leb 0 (length s) (omega arith))
 
-  short_walk : (w : Walk) → walked_of s 0 w ≡ Short → alone_of (alone_walk s 0 w) ≡ Err (record { why = Incomplete; place = 0 })
-  short_walk (whole gs) e = let z : ◌≡◌ {A = ℕ} 0 1 = cc in absurd (omega arith)
-  short_walk short e = refl
-  short_walk (dead q) e = let z : ◌≡◌ {A = ℕ} 0 1 = cc in absurd (omega arith)
-
-  dead_walk : (w : Walk) (d : ℕ) → walked_of s 0 w ≡ DeadAt d → alone_of (alone_walk s 0 w) ≡ Err (record { why = DeadContinuation; place = d })
-  dead_walk (whole gs) d e = let z : ◌≡◌ {A = ℕ} 0 1 = cc in absurd (omega arith)
-  dead_walk short d e = let z : ◌≡◌ {A = ℕ} 0 1 = cc in absurd (omega arith)
-  dead_walk (dead q) d e = let z : q ≡ d = cc in ap (λ (x : ℕ). Err (record { why = DeadContinuation; place = x })) z
+  not_walked : (r : Refused) (w : Walk) → walked_of s 0 w ≡ Err r → alone_of (alone_walk s 0 w) ≡ Err r
+  not_walked r (whole gs) e = let z : ◌≡◌ {A = ℕ} 0 1 = cc in absurd (omega arith)
+  not_walked r short e = let z : record { why = Incomplete; place = 0 } ≡ r = cc in ap Err z
+  not_walked r (dead q) e = let z : record { why = DeadContinuation; place = q } ≡ r = cc in ap Err z
 
   -- 1, and 16
-  pub alone_short : walked_at Reader s 0 ≡ Short → alone_of (alone_at Reader s 0) ≡ Err (record { why = Incomplete; place = 0 })
+  pub alone_not_whole : (r : Refused) → walked_at Reader s 0 ≡ Err r → alone_of (alone_at Reader s 0) ≡ Err r
   unfolding walked_at
-  alone_short e = ap alone_of alone_as ∙ short_walk (frame_walk Reader s 0) e
+  alone_not_whole r e = ap alone_of alone_as ∙ not_walked r (frame_walk Reader s 0) e
 
-  pub alone_dead : (d : ℕ) → walked_at Reader s 0 ≡ DeadAt d → alone_of (alone_at Reader s 0) ≡ Err (record { why = DeadContinuation; place = d })
-  unfolding walked_at
-  alone_dead d e = ap alone_of alone_as ∙ dead_walk (frame_walk Reader s 0) d e
-
-  -- the walk's segments end at e and are k
-  record OfWalk (e k : ℕ) (w : Walk) : Type 0 where
+  -- the walk's segments end where it says, and are as many as it says
+  record OfWalk (v : Walked) (w : Walk) : Type 0 where
     segments : List Segment
     is : w ≡ whole segments
-    ends : end_of 0 segments ≡ e
-    counted : length segments ≡ k
+    ends : end_of 0 segments ≡ v.end
+    counted : length segments ≡ v.segments
 
-  whole_walk : (e k n : ℕ) (w : Walk) → walked_of s 0 w ≡ Whole e k n → OfWalk e k w
-  whole_walk e k n (whole gs) w = record { segments = gs; is = refl; ends = cc; counted = cc }
-  whole_walk e k n short w = let z : ◌≡◌ {A = ℕ} 0 1 = cc in absurd (omega arith)
-  whole_walk e k n (dead q) w = let z : ◌≡◌ {A = ℕ} 0 1 = cc in absurd (omega arith)
+  whole_walk : (v : Walked) (w : Walk) → walked_of s 0 w ≡ Ok v → OfWalk v w
+  whole_walk v (whole gs) e =
+      let z : walked (end_of 0 gs) (length gs) (length (payload_of s gs)) ≡ v = cc in
+      record { segments = gs; is = refl; ends = ap (λ (x : Walked). x.end) z; counted = ap (λ (x : Walked). x.segments) z }
+  whole_walk v short e = let z : ◌≡◌ {A = ℕ} 0 1 = cc in absurd (omega arith)
+  whole_walk v (dead q) e = let z : ◌≡◌ {A = ℕ} 0 1 = cc in absurd (omega arith)
 
-  module _ (e k n : ℕ) (w : walked_at Reader s 0 ≡ Whole e k n) where
-    of_walk : OfWalk e k (frame_walk Reader s 0)
+  module _ (v : Walked) (w : walked_at Reader s 0 ≡ Ok v) where
+    of_walk : OfWalk v (frame_walk Reader s 0)
     unfolding walked_at
-    of_walk = whole_walk e k n (frame_walk Reader s 0) w
+    of_walk = whole_walk v (frame_walk Reader s 0) w
 
     headed : (f : Result DssHeader Refused) → f ≡ head_at s 0 → alone_of (alone_at Reader s 0) ≡ alone_of (alone_head s 0 of_walk.segments f)
     headed f i =
@@ -79,8 +71,8 @@ module _ (s : List ℕ) where
           ∙ ap alone_of (pick_yes _ _ (lt-ltb (be16 s 0) 6 (omega arith)))
           ∙ ap (λ (x : ℕ). Err (record { why = LengthTooShort x; place = 0 })) (sym l)
 
-      pub alone_stands : 6 ≤ raw → alone_of (alone_at Reader s 0) ≡ Ok (alone e k)
+      pub alone_stands : 6 ≤ raw → alone_of (alone_at Reader s 0) ≡ Ok (alone v.end v.segments)
       alone_stands m =
           headed (Ok h) i
           ∙ ap alone_of (pick_no _ _ (le-ltb (be16 s 0) 6 (omega arith)))
-          ∙ ap₂ Ok (alone of_walk.ends of_walk.counted)
+          ∙ ap₂ (λ (e k : ℕ). Ok (alone e k)) of_walk.ends of_walk.counted

@@ -1,16 +1,15 @@
 -- The laws of a payload where it lies: how long it is, where each of its bytes stands, and how many of them stand in one piece. Payload
 -- byte i stands behind so many continuations, q, and 2 * q bytes of framing.
+use Rattle.std.proofs.Common.{min}
 use Prim.Native.Nat.{ℕ, zero, suc, ◌+◌, ◌*◌, ◌-◌, ◌/◌, ◌%◌, ◌≤◌, ◌<◌}
 use native.Mathlib.Omega.{arith}
-use native.Mathlib.Nat.{add_assoc}
-use mathlib.Core.Path.{◌≡◌, refl, sym, ap, ap₂, ◌∙◌}
+use mathlib.Core.Path.{◌≡◌, refl, sym, ap, ◌∙◌}
 use mathlib.Core.List.{List, ◌++◌}
 use borrow.Author.Tests.{ltb-true, ltb-false, leb-true, leb-false, lt-ltb, le-ltb, le-leb, lt-leb}
 use lib.Dec.{ltb, leb}
 use lib.ListN.{length, get_or, take, drop, length-append, length-drop, take-append-drop}
 use lib.Seq.{length-take-le, drop-append-add, drop-drop, get_or-take, get_or-drop}
-use Rattle.wire.specs.Bytes.{be16, part}
-use Rattle.wire.proofs.WireLaws.{by, pick_yes, pick_no, be16_same, part_front}
+use Rattle.wire.proofs.WireLaws.{by, pick_yes, pick_no, part_front}
 use Rattle.ddm_change.specs.declared.Carriage.{Carriage}
 use Rattle.ddm_change.specs.inner.Carried.{carried_bytes, carried, SoundCarriage, passed, place_of, uncut, piece_of}
 
@@ -71,6 +70,12 @@ module _ (k i : ℕ) where
   unfolding passed
   passed_all h l = pick_no _ _ (le-ltb i 32761 h) ∙ pick_no _ _ (le-ltb ((i - 32761) / 32765 + 1) k l)
 
+pub passed_later : (k i m : ℕ) → 32761 ≤ i → m ≡ min ((i - 32761) / 32765 + 1) k → m ≡ passed k i
+passed_later k i m h e =
+    by (ltb ((i - 32761) / 32765 + 1) k)
+    (λ t. let l : (i - 32761) / 32765 + 1 < k = ltb-true _ k t in omega (arith, passed_some k i h l))
+    (λ t. let l : k ≤ (i - 32761) / 32765 + 1 = ltb-false _ k t in omega (arith, passed_all k i h l))
+
 pub uncut_first : (i : ℕ) → i < 32761 → uncut i ≡ 32761 - i
 unfolding uncut
 uncut_first i h = pick_yes _ _ (lt-ltb i 32761 h)
@@ -114,6 +119,11 @@ module _ (k i most : ℕ) where
   pub piece_fits : passed k i < k → most ≤ uncut i → piece_of k i most ≡ most
   unfolding piece_of
   piece_fits h l = pick_no _ _ (lt-leb k (passed k i) h) ∙ pick_no _ _ (le-ltb (uncut i) most l)
+
+  pub piece_min : (m : ℕ) → passed k i < k → m ≡ min (uncut i) most → m ≡ piece_of k i most
+  piece_min m h e =
+      by (ltb (uncut i) most) (λ t. let l : uncut i < most = ltb-true (uncut i) most t in omega (arith, piece_cut h l))
+      (λ t. let l : most ≤ uncut i = ltb-false (uncut i) most t in omega (arith, piece_fits h l))
 
   -- a piece is all that is asked for, or it ends where a continuation starts
   piece_is : {P : Type 0} → (piece_of k i most ≡ most → (passed k i < k → most ≤ uncut i) → P) → (uncut i < most → piece_of k i most ≡ uncut i → P) → P
@@ -182,11 +192,3 @@ module _ (c : Carriage) (s : List ℕ) (sound : SoundCarriage c s) where
     where
       first : (x : List ℕ) (j : ℕ) → get_or x j 0 ≡ get_or (take 1 (drop j x)) 0 0
       first x j = let z : j ≡ j + 0 = omega arith in ap (λ (n : ℕ). get_or x n 0) z ∙ sym (get_or-take 1 (drop j x) 0 0 (omega arith) ∙ get_or-drop j x 0 0)
-
--- ---- what stands from a place on
-
-pub drop_two : (v : List ℕ) (at i : ℕ) → be16 (drop at v) i ≡ be16 v (at + i)
-drop_two v at i = be16_same (drop at v) v i (at + i) (get_or-drop at v i 0) (get_or-drop at v (i + 1) 0 ∙ ap (λ (j : ℕ). get_or v j 0) (sym (add_assoc at i 1)))
-
-pub drop_part : (v : List ℕ) (at a e : ℕ) → take (e - a) (drop a (drop at v)) ≡ part v (at + a) (at + e)
-drop_part v at a e = let z : e - a ≡ at + e - (at + a) = omega arith in ap₂ take z (drop-drop a at v)

@@ -18,13 +18,12 @@ use Rattle.dss_writer.proofs.LayingLaws.{capped_same}
 use Rattle.ddm_builder.specs.Built.{length_bytes, built, built_size}
 use Rattle.ddm_builder.specs.Headers.{header_of}
 use Rattle.ddm_builder.proofs.HeaderLaws.{length_header, built_header}
-use Rattle.ddm_change.specs.inner.Carried.{carried}
 use Rattle.ddm_change.proofs.ChangeLaws.{capped_exact, capped_beyond, capped_fits, built_size_lem, built_length, parts_length}
 use Rattle.ddm_change.specs.inner.Outlay.{raw_first, outlaid}
 use Rattle.ddm_change.proofs.OutlayLaws.{outlaid_append, outlaid_length, frame_size_grows, size_none}
 use Rattle.ddm_change.proofs.Reframing.{reframed_is}
 use Rattle.ddm_change.specs.Request.{lays_frame, refuses_it, reframed, request_of, ChangesRequest}
-use Rattle.ddm_change.specs.inner.Planning.{carriage_of, payload_after, data_size, LayingRequest}
+use Rattle.ddm_change.specs.inner.Planning.{payload_of_plan, payload_after, data_size, LayingRequest}
 use Rattle.ddm_change.specs.declared.Plan.{Plan}
 
 -- ---- parts one behind the other
@@ -65,21 +64,25 @@ six_more : (n : ℕ) → 6 + n ≤ frame_size n
 unfolding frame_size
 six_more n = omega arith
 
-module _ (s : List ℕ) (p : Plan) (cp : ℕ) (new : List ℕ) (l : LayingRequest s cp (length new) p) where
-  data_total : length (part (carried (carriage_of p) s) p.first p.from ++ (built cp new ++ drop p.to (carried (carriage_of p) s))) ≡ data_size p (length new)
-  data_total =
-      let v : List ℕ = carried (carriage_of p) s in
-      omega (arith, parts_length v p.first p.from p.to cp new (omega (arith, l.ordered, l.inside, l.ends)), l.ends)
+-- the frame given has a head
+pub framed : (s : List ℕ) (cp n : ℕ) (p : Plan) → LayingRequest s cp n p → 6 ≤ length s
+framed s cp n p l = omega (arith, l.led, p.payload.sound.led, ap length l.frame_is)
 
-  pub payload_total : length (payload_after s p cp new) ≡ built_size (data_size p (length new))
+module _ (s : List ℕ) (p : Plan) (cp : ℕ) (new : List ℕ) (l : LayingRequest s cp (length new) p) where
+  data_total : length (part (payload_of_plan p) p.first p.from ++ (built cp new ++ drop p.to (payload_of_plan p))) ≡ data_size p (length new)
+  data_total =
+      let v : List ℕ = payload_of_plan p in
+      omega (arith, parts_length v p.first p.from p.to cp new (omega (arith, l.ordered, l.inside)))
+
+  pub payload_total : length (payload_after p cp new) ≡ built_size (data_size p (length new))
   payload_total =
-      built_length p.code_point (part (carried (carriage_of p) s) p.first p.from ++ (built cp new ++ drop p.to (carried (carriage_of p) s)))
+      built_length p.code_point (part (payload_of_plan p) p.first p.from ++ (built cp new ++ drop p.to (payload_of_plan p)))
       ∙ ap built_size data_total
 
 module _ (s : List ℕ) (p : Plan) (cp : ℕ) (new room : List ℕ) (l : LayingRequest s cp (length new) p)
     (fits : frame_size p.payload_len ≤ length room) (small : length room < 2 ^ 63) where
   abbrev payload : List ℕ
-  payload = carried (carriage_of p) s
+  payload = payload_of_plan p
 
   abbrev size : ℕ
   size = data_size p (length new)
@@ -88,7 +91,7 @@ module _ (s : List ℕ) (p : Plan) (cp : ℕ) (new room : List ℕ) (l : LayingR
   ahead = part payload p.first p.from
 
   abbrev behind : List ℕ
-  behind = part payload p.to p.end
+  behind = part payload p.to (length payload)
 
   -- what fits a room isn't given as 2^64 - 1
   pub few : p.payload_len < 2 ^ 63
@@ -103,27 +106,27 @@ module _ (s : List ℕ) (p : Plan) (cp : ℕ) (new room : List ℕ) (l : LayingR
   data_exact = capped_exact size p.data_len l.data_size_is (omega (arith, few, len_exact, built_size_lem size))
 
   -- the payload's length, of its parts
-  pub sizes : (p.payload_len ≡ 4 + length_bytes p.data_len + (p.from - p.first + (4 + length_bytes (length new) + length new) + (p.end - p.to)))
+  pub sizes : (p.payload_len ≡ 4 + length_bytes p.data_len + (p.from - p.first + (4 + length_bytes (length new) + length new) + (length (payload_of_plan p) - p.to)))
       × (length (header_of p.code_point p.data_len) ≡ 4 + length_bytes p.data_len)
       × (length ahead ≡ p.from - p.first)
       × (length (header_of cp (length new)) ≡ 4 + length_bytes (length new))
-      × (length behind ≡ p.end - p.to)
+      × (length behind ≡ length (payload_of_plan p) - p.to)
   sizes = (
     omega (arith, len_exact, built_size_lem size, ap length_bytes data_exact, built_size_lem (length new)),
     length_header p.code_point p.data_len,
-    part_length payload p.first p.from (omega (arith, l.ordered, l.inside, l.ends)),
+    part_length payload p.first p.from (omega (arith, l.ordered, l.inside)),
     length_header cp (length new),
-    part_length payload p.to p.end (omega (arith, l.ends)),
+    part_length payload p.to (length payload) (omega arith),
   )
 
   rest_is : behind ≡ drop p.to payload
-  rest_is = ap (part payload p.to) l.ends ∙ tail_drop payload p.to
+  rest_is = tail_drop payload p.to
 
   data_length : length (ahead ++ (built cp new ++ drop p.to payload)) ≡ p.data_len
   data_length = data_total s p cp new l ∙ sym data_exact
 
   -- object's header, data up to the parameter, parameter's header, new bytes, data behind
-  pub parts_are : (((header_of p.code_point p.data_len ++ ahead) ++ header_of cp (length new)) ++ new) ++ behind ≡ payload_after s p cp new
+  pub parts_are : (((header_of p.code_point p.data_len ++ ahead) ++ header_of cp (length new)) ++ new) ++ behind ≡ payload_after p cp new
   parts_are =
       let h : List ℕ = header_of p.code_point p.data_len in
       let g : List ℕ = header_of cp (length new) in
@@ -134,19 +137,19 @@ module _ (s : List ℕ) (p : Plan) (cp : ℕ) (new room : List ℕ) (l : LayingR
       ∙ ap (λ (n : ℕ). header_of p.code_point n ++ (ahead ++ (built cp new ++ drop p.to payload))) (sym data_length)
       ∙ sym (built_header p.code_point (ahead ++ (built cp new ++ drop p.to payload)))
 
-  pub payload_length : length (payload_after s p cp new) ≡ p.payload_len
+  pub payload_length : length (payload_after p cp new) ≡ p.payload_len
   payload_length = payload_total s p cp new l ∙ sym len_exact
 
   -- all of them behind the head: the frame
   pub laid_frame : (after : List ℕ)
       → Holds room (two (raw_first p.payload_len) ++ part s 2 6) p.payload_len
       ((((header_of p.code_point p.data_len ++ ahead) ++ header_of cp (length new)) ++ new) ++ behind) after
-      → after ≡ splice room 0 (reframed s (payload_after s p cp new))
+      → after ≡ splice room 0 (reframed s (payload_after p cp new))
   laid_frame after h =
       h
       ∙ ap (λ (x : List ℕ). splice room 0 ((two (raw_first p.payload_len) ++ part s 2 6) ++ outlaid p.payload_len 0 x)) parts_are
-      ∙ ap (λ (n : ℕ). splice room 0 ((two (raw_first n) ++ part s 2 6) ++ outlaid n 0 (payload_after s p cp new))) (sym payload_length)
-      ∙ ap (splice room 0) (sym (reframed_is s (payload_after s p cp new) l.sound.led))
+      ∙ ap (λ (n : ℕ). splice room 0 ((two (raw_first n) ++ part s 2 6) ++ outlaid n 0 (payload_after p cp new))) (sym payload_length)
+      ∙ ap (splice room 0) (sym (reframed_is s (payload_after p cp new) (framed s cp (length new) p l)))
 
 -- ---- laid down or refused
 

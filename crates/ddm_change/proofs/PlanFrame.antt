@@ -14,19 +14,21 @@ use Rattle.ddm_change.specs.Alone.{alone_at}
 use Rattle.ddm_change.specs.Request.{refuses_it, place_in, request_object, request_read, request_of}
 use Rattle.ddm_change.specs.inner.Carried.{SoundCarriage, carried, passed, place_of}
 use Rattle.ddm_change.proofs.FramesCarried.{carriage_in, Carries, carries}
-use Rattle.ddm_change.specs.inner.Planning.{alone_of, Standing}
+use Rattle.ddm_change.specs.inner.Planning.{alone, alone_of, Standing}
 use Rattle.ddm_change.specs.declared.Carriage.{Carriage}
-use Rattle.ddm_change.specs.inner.Planning.{alone}
+use Rattle.ddm_change.specs.declared.Alone.{Alone}
 
-never : {P : Type 0} {e k : ℕ} {r : Refused} → Err r ≡ Ok (alone e k) → P
+never : {P : Type 0} {a : Alone} {r : Refused} → Err r ≡ Ok a → P
 never q = absurd (let z : ◌≡◌ {A = ℕ} 0 1 = cc in omega arith)
 
 module _ (s : List ℕ) where
-  pub standing : (e k : ℕ) → alone_of (alone_at Reader s 0) ≡ Ok (alone e k) → Standing s e k
-  standing e k q = go (alone_at Reader s 0) refl q
+  pub standing : (a : Alone) → alone_of (alone_at Reader s 0) ≡ Ok a → Standing s a.end a.segments
+  standing a q = go (alone_at Reader s 0) refl q
     where
-      go : (r : Read) → alone_at Reader s 0 ≡ r → alone_of r ≡ Ok (alone e k) → Standing s e k
-      go (frame f) i q = record { one = f; read = i; ends = cc; many = cc }
+      go : (r : Read) → alone_at Reader s 0 ≡ r → alone_of r ≡ Ok a → Standing s a.end a.segments
+      go (frame f) i q =
+          let z : alone (end_of 0 f.segments) (length f.segments) ≡ a = cc in
+          record { one = f; read = i; ends = sym (ap (λ (x : Alone). x.end) z); many = sym (ap (λ (x : Alone). x.segments) z) }
       go (refused r) i q = never q
 
   -- 1 or 16, 2, 3, 7

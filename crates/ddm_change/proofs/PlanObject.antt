@@ -21,7 +21,7 @@ use Rattle.ddm_object.specs.Objects as ddm
 use Rattle.ddm_object.proofs.ObjectReads.{made, content_plain}
 use Rattle.ddm_change.specs.Change.{Change, changed, faulty, lacking, change_of, unsound}
 use Rattle.ddm_change.specs.Request.{Changed, refuses_it, place_in, framed_of, built_of, unless_behind, request_object, request_of}
-use Rattle.ddm_change.specs.inner.Carried.{SoundCarriage, carried, place_of}
+use Rattle.ddm_change.specs.inner.Carried.{carried, place_of}
 use Rattle.ddm_change.proofs.CarriedLaws.{place_inside}
 use Rattle.ddm_change.specs.inner.Planning.{outcome, OneObject}
 use Rattle.ddm_change.proofs.PlanFrame.{Decides, place_first}
@@ -88,11 +88,8 @@ module _ (s : List ℕ) (end : ℕ) (c : Carriage) (d : Decides s end c) where
       object_behind h cp new = comes_plain cp new ∙ behind (plain cp new) h
 
       module _ (h : length s ≤ end) where
-        all_taken : take end s ≡ s
+        pub all_taken : take end s ≡ s
         all_taken = take_all end s h
-
-        pub object_sound : SoundCarriage c s
-        object_sound = subst (SoundCarriage c) all_taken d.sound
 
         payload_all : payload_of s d.segments ≡ carried c s
         payload_all = d.payload_is ∙ ap (carried c) all_taken
@@ -100,25 +97,20 @@ module _ (s : List ℕ) (end : ℕ) (c : Carriage) (d : Decides s end c) where
         order : (4 ≤ header) × (header ≤ total) × (total ≤ length (carried c (take end s)))
         order = in_order (measured_taken (carried c (take end s)) total header 6 e)
 
-        pub object_four : 4 ≤ length (carried c s)
-        object_four = omega (arith, order, ap (λ (l : List ℕ). length (carried c l)) all_taken)
-
         comes_here : (cp : ℕ) (new : List ℕ) → request_of s cp new ≡ plain cp new
         comes_here cp new = comes_plain cp new ∙ nothing_behind (plain cp new) h
 
         -- 17 for raw length 0x8004
-        pub object_raw : c.lead ≡ 6 → be16 (carried c s) 0 ≡ 0x8004 → (cp : ℕ) (new : List ℕ) → request_of s cp new ≡ refuses_it (unsound 6)
+        pub object_raw : c.lead ≡ 6 → be16 (carried c (take end s)) 0 ≡ 0x8004 → (cp : ℕ) (new : List ℕ) → request_of s cp new ≡ refuses_it (unsound 6)
         object_raw l q cp new =
             comes_here cp new
-            ∙ pick_yes _ _ (eq-eqb (be16 (payload_of s d.segments) 0) 0x8004 (ap (λ (b : List ℕ). be16 b 0) payload_all ∙ q))
+            ∙ pick_yes _ _ (eq-eqb (be16 (payload_of s d.segments) 0) 0x8004 (ap (λ (b : List ℕ). be16 b 0) d.payload_is ∙ q))
             ∙ ap (λ (n : ℕ). refuses_it (unsound n)) (d.places 0 ∙ place_first c l)
 
-        -- the data decide
-        pub object_data : c.lead ≡ 6 → ¬ (be16 (carried c s) 0 ≡ 0x8004) → OneObject s c header
-        object_data l n =
+        object_here : c.lead ≡ 6 → ¬ (be16 (carried c s) 0 ≡ 0x8004) → OneObject s c header
+        object_here l n =
             record {
               led = l;
-              sound = object_sound;
               four = omega (arith, order);
               within = omega (arith, order, same_length);
               comes = λ cp new.
@@ -154,3 +146,9 @@ module _ (s : List ℕ) (end : ℕ) (c : Carriage) (d : Decides s end c) where
                 ap (λ (k : ℕ). refuses_it (unsound (place_in 0 d.segments (k + place)))) header_is
                 ∙ ap (λ (k : ℕ). refuses_it (unsound k)) (d.places (header + place))
             as_outcome lacking = refl
+
+        -- the data decide
+        pub object_data : c.lead ≡ 6 → ¬ (be16 (carried c (take end s)) 0 ≡ 0x8004) → OneObject (take end s) c header
+        object_data l n =
+            subst (λ (x : List ℕ). OneObject x c header) (sym all_taken)
+            (object_here l (λ q. n (ap (λ (x : List ℕ). be16 (carried c x) 0) all_taken ∙ q)))

@@ -1,7 +1,7 @@
 -- What is known of a request before it is laid down: how long it is with the parameter rewritten.
 use Prim.Native.Nat.{ℕ, ◌+◌, ◌-◌, ◌%◌, ◌^◌, ◌≤◌, ◌<◌}
 use native.Mathlib.Omega.{arith}
-use mathlib.Core.Path.{◌≡◌, sym, ap, ap₂, subst, ◌∙◌}
+use mathlib.Core.Path.{◌≡◌, sym, ap, ◌∙◌}
 use mathlib.Core.Bool.{Bool, true, false}
 use mathlib.Core.List.{List, ◌++◌}
 use borrow.Author.Tests.{ltb-true, ltb-false, ne_eqb}
@@ -18,7 +18,7 @@ use Rattle.ddm_change.specs.Request.{lays_frame, refuses_it, reframed, unreadabl
 use Rattle.ddm_change.specs.inner.Carried.{SoundCarriage, carried}
 use Rattle.ddm_change.proofs.ChangeLaws.{capped_beyond, built_size_lem, built_length, parts_length}
 use Rattle.ddm_change.proofs.CarriedLaws.{carried_length}
-use Rattle.ddm_change.specs.inner.Planning.{outcome, FoundParam, LayingRequest}
+use Rattle.ddm_change.specs.inner.Planning.{outcome, FoundParam}
 use Rattle.ddm_change.specs.declared.Carriage.{Carriage}
 
 -- ---- the lengths after
@@ -46,7 +46,7 @@ unreadable_capped n l =
 
 -- ---- a parameter that is found
 
-module _ (s : List ℕ) (c : Carriage) (first from to cp : ℕ) (f : FoundParam s c first from to cp) where
+module _ (s : List ℕ) (c : Carriage) (sound : SoundCarriage c s) (first from to cp : ℕ) (f : FoundParam s c first from to cp) where
   -- the data after
   abbrev after : List ℕ → List ℕ
   after new = part (carried c s) first from ++ (built cp new ++ drop to (carried c s))
@@ -71,52 +71,25 @@ module _ (s : List ℕ) (c : Carriage) (first from to cp : ℕ) (f : FoundParam 
         let x : ℕ = after_size n in
         ap unreadable (payload_length new e)
         ∙ sym (unreadable_capped (built_size x)
-        (omega (arith, built_size_lem x, built_size_lem n, few_bytes x, few_bytes n, f.behind, f.ordered, f.inside, carried_length c s f.one.sound)))
+        (omega (arith, built_size_lem x, built_size_lem n, few_bytes x, few_bytes n, f.behind, f.ordered, f.inside, carried_length c s sound)))
         ∙ u
 
     module _
-        (end size payload : ℕ)
-        (i : end ≡ length (carried c s))
-        (j : size ≡ capped (from - first + (end - to) + built_size n))
+        (size payload : ℕ)
+        (j : size ≡ capped (after_size n))
         (k : payload ≡ capped (built_size size))
       where
-        size_is : payload ≡ capped (built_size (from - first + (end - to) + built_size n))
-        size_is = k ∙ ap (λ (x : ℕ). capped (built_size x)) j ∙ capped_built (from - first + (end - to) + built_size n)
-
         payload_is : payload ≡ capped (built_size (after_size n))
-        payload_is = size_is ∙ ap (λ (x : ℕ). capped (built_size (from - first + (x - to) + built_size n))) i
+        payload_is = k ∙ ap (λ (x : ℕ). capped (built_size x)) j ∙ capped_built (after_size n)
 
         -- 18
         pub found_unreadable : unreadable payload ≡ true → (new : List ℕ) → length new ≡ n
             → request_of s cp new ≡ refuses_it (record { why = UnreadableSize; place = 0 })
         found_unreadable u new e = comes_framed new ∙ pick_yes _ _ (tested true (ap unreadable (sym payload_is) ∙ u) new e)
 
-        pub found_laying : (code : ℕ) → code ≡ be16 (carried c s) 2 → unreadable payload ≡ false
-            → LayingRequest s cp n
-            (record {
-              code_point = code;
-              continuations = c.continuations;
-              first = first;
-              from = from;
-              to = to;
-              end = end;
-              data_len = size;
-              payload_len = payload;
-            })
-        found_laying code l u =
-            let six : c ≡ record { lead = 6; continuations = c.continuations } =
-            ap (λ (x : ℕ). record { lead = x; continuations = c.continuations }) f.one.led in
-            record {
-              sound = subst (λ (x : Carriage). SoundCarriage x s) six f.one.sound;
-              behind = f.behind;
-              ordered = f.ordered;
-              inside = omega (arith, f.inside);
-              ends = i ∙ ap (λ (x : Carriage). length (carried x s)) six;
-              data_size_is = j;
-              size = size_is;
-              comes = λ new e.
-                  comes_framed new
-                  ∙ pick_no _ _ (tested false (ap unreadable (sym payload_is) ∙ u) new e)
-                  ∙ ap₂ (λ (x : ℕ) (y : List ℕ). lays_frame (reframed s (built x (part y first from ++ (built cp new ++ drop to y))))) (sym l)
-                  (ap (λ (x : Carriage). carried x s) six);
-            }
+        pub found_laying : (code : ℕ) → code ≡ be16 (carried c s) 2 → unreadable payload ≡ false → (new : List ℕ) → length new ≡ n
+            → request_of s cp new ≡ lays_frame (reframed s (built code (after new)))
+        found_laying code l u new e =
+            comes_framed new
+            ∙ pick_no _ _ (tested false (ap unreadable (sym payload_is) ∙ u) new e)
+            ∙ ap (λ (x : ℕ). lays_frame (reframed s (built x (after new)))) (sym l)

@@ -1,6 +1,5 @@
 -- Changing one parameter: document 02, W-204. `d` is an object's data, `cp` the code point, `new` the new bytes.
-use Rattle.std.specs.Prelude.{ℕ, ◌+◌, ◌-◌, ◌≡◌, List, [], ◌∷◌, ◌++◌, eqb, length, take, drop, Result, Ok, Err, Some, None}
-use Rattle.std.proofs.Math.Option.{Option, none, some}
+use Rattle.std.specs.Prelude.{ℕ, ◌+◌, ◌-◌, ◌≡◌, List, [], ◌∷◌, ◌++◌, eqb, length, take, drop, Result, Ok, Err, Option, Some, None}
 use Rattle.wire.specs.Bytes.{pick, be16, laid}
 use Rattle.answer.specs.Rooms.{capped, laid_at_start}
 use Rattle.answer.specs.declared.Refusal.TheVariants.{NotFound, UnsoundData}
@@ -14,8 +13,8 @@ use Rattle.ddm_change.specs.declared.Spot.{Spot}
 -- "17 when the parameters don't reach the data's end or one has raw length 0x8004": the first byte of the parameter at fault, which is
 -- the one with that raw length, or what stands where the walk stopped short of the end. None: all is sound.
 unfoldable pub fault_from : List ℕ → ℕ → List Object → Option ℕ
-fault_from d place [] = pick (eqb place (length d)) none (some place)
-fault_from d place (o ∷ os) = pick (eqb (be16 d place) 0x8004) (some place) (fault_from d (place + o.consumed) os)
+fault_from d place [] = pick (eqb place (length d)) None (Some place)
+fault_from d place (o ∷ os) = pick (eqb (be16 d place) 0x8004) (Some place) (fault_from d (place + o.consumed) os)
 
 -- "the first such parameter": from its first byte up to the byte after its last, or nowhere
 abbrev pub spot : ℕ → ℕ → Spot
@@ -37,11 +36,11 @@ pub data Change : Type 0 where
 -- are copied as they are"
 abbrev pub rewritten_at : List ℕ → ℕ → List ℕ → Option Spot → Change
 rewritten_at d cp new None = lacking
-rewritten_at d cp new (Some (spot a e)) = changed (take a d ++ (built cp new ++ drop e d))
+rewritten_at d cp new (Some x) = changed (take x.from d ++ (built cp new ++ drop x.to d))
 
 abbrev pub unless_faulty : Option ℕ → Change → Change
-unless_faulty none c = c
-unless_faulty (some place) c = faulty place
+unless_faulty None c = c
+unless_faulty (Some place) c = faulty place
 
 -- "17 ..., then 11"
 unfoldable pub change_of : List ℕ → ℕ → List ℕ → Change
@@ -77,11 +76,11 @@ pub record Changes (d : List ℕ) (cp : ℕ) (new room : List ℕ) (r : Result �
 -- the bytes that the data after has, of so many new bytes; "a need above 2^64 - 1 is given as that"
 abbrev pub needed_at : List ℕ → ℕ → Option Spot → Result ℕ Refused
 needed_at d n None = Err no_such
-needed_at d n (Some (spot a e)) = Ok (capped (a + built_size n + (length d - e)))
+needed_at d n (Some x) = Ok (capped (x.from + built_size n + (length d - x.to)))
 
 abbrev pub needed_unless : Option ℕ → Result ℕ Refused → Result ℕ Refused
-needed_unless none r = r
-needed_unless (some place) r = Err (unsound place)
+needed_unless None r = r
+needed_unless (Some place) r = Err (unsound place)
 
 -- `change_param_len`: the same answers without 9
 unfoldable pub needed_of : List ℕ → ℕ → ℕ → Result ℕ Refused

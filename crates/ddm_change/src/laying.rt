@@ -4,14 +4,23 @@ ghost use Rattle.std.specs.Prelude.{◌≡◌, ◌++◌, ◌+◌, ◌-◌, ◌�
 ghost use Rattle.wire.specs.Bytes.{two, part, splice};
 ghost use Rattle.dss_frame.specs.Written.{frame_size};
 ghost use Rattle.ddm_builder.specs.Headers.{header_of};
-ghost use Rattle.ddm_change.specs.inner.Carried.{SoundCarriage, carried, uncut};
-ghost use Rattle.ddm_change.specs.inner.Outlay.{raw_first, starts, raw_at, outlaid, outlay_step};
+ghost use Rattle.ddm_change.specs.inner.Carried.{carried, uncut};
+ghost use Rattle.ddm_change.specs.inner.Outlay.{raw_first, starts, raw_at};
 
-use super::{Carriage, carried};
+use super::carried::{Carried, uncut_from};
 use dss_head::{
     DSS_CONTINUATION_HEADER_LEN, DSS_CONTINUATION_PAYLOAD_LEN, DSS_CONTINUED,
     DSS_FIRST_PAYLOAD_LEN, DSS_HEADER_LEN,
 };
+
+// A payload on its way into a room that has room for its frame: the room, how long the payload is, and its byte that is next.
+#[derive(Drop)]
+pub(crate) struct Laying<'a> {
+    pub room: &'a mut [u8],
+    pub len: usize,
+    pub at: usize,
+    ghost fits: { frame_size len ≤ length room.now },
+}
 
 // The length in the first segment of a frame with so much payload.
 pub(crate) fn raw_first(len: usize) -> u16
@@ -36,10 +45,7 @@ pub(crate) fn lay_head(frame: &[u8], len: usize, room: &mut [u8])
 pub(crate) fn starts_at(at: usize) -> bool
     ensures { result ≡ starts at }
 {
-    if at < DSS_FIRST_PAYLOAD_LEN {
-        return false;
-    }
-    (at - DSS_FIRST_PAYLOAD_LEN) % DSS_CONTINUATION_PAYLOAD_LEN == 0
+    DSS_FIRST_PAYLOAD_LEN <= at && (at - DSS_FIRST_PAYLOAD_LEN) % DSS_CONTINUATION_PAYLOAD_LEN == 0
 }
 
 // The length that a continuation has which starts at a payload byte.
@@ -53,67 +59,49 @@ pub(crate) fn raw_at(len: usize, at: usize) -> u16
     DSS_CONTINUED
 }
 
-// Payload bytes that no cut divides, behind the length of the continuation that starts with them, if one does.
-pub(crate) fn lay_piece(bytes: &[u8], len: usize, at: usize, room: &mut [u8])
-    requires { (0 < length bytes.now) × (length bytes.now ≤ uncut at) × (at + length bytes.now ≤ len) × (frame_size len ≤ length room.old) }
-    ensures { room.new ≡ splice room.old (frame_size at) (outlaid len at bytes.now) }
-{
-    let mark = dss_writer::frame_size(at);
-    if starts_at(at) {
-        wire::put_u16(&mut room[mark..], raw_at(len, at));
-        wire::lay_at(bytes, room, mark + DSS_CONTINUATION_HEADER_LEN);
-        return;
-    }
-    wire::lay_at(bytes, room, mark);
-}
+impl<'a> Laying<'a> {
+    ghost use Rattle.ddm_change.specs.inner.LaysOn.{LaysOn};
 
-// How many of so many payload bytes stand in one piece here, and are cut by nothing there.
-pub(crate) fn step_of(c: Carriage, from: usize, at: usize, most: usize) -> usize
-    ensures { result ≡ outlay_step c.continuations from at most }
-{
-    let there = carried::piece_of(c.continuations, from, most);
-    let here = carried::uncut_from(at);
-    if here < there {
-        return here;
+    // Payload bytes that no cut divides, behind the length of the continuation that starts with them, if one does.
+    pub(crate) fn piece(&mut self, bytes: &[u8])
+        requires some { 0 < length bytes.now }
+        requires whole { length bytes.now ≤ uncut self.old.at }
+        requires inside { self.old.at + length bytes.now ≤ self.old.len }
+        ensures { LaysOn bytes.now self.old self.new }
+    {
+        let mut mark = dss_writer::frame_size(self.at);
+        if starts_at(self.at) {
+            wire::put_u16(&mut self.room[mark..], raw_at(self.len, self.at));
+            mark += DSS_CONTINUATION_HEADER_LEN;
+        }
+        wire::lay_at(bytes, self.room, mark);
+        self.at += bytes.len();
     }
-    there
-}
 
-// A part of a payload that a run carries, laid down as bytes of another payload, from its byte `at` on.
-pub(crate) fn lay_part(
-    run: &[u8],
-    c: Carriage,
-    from: usize,
-    to: usize,
-    len: usize,
-    at: usize,
-    room: &mut [u8],
-)
-    requires { SoundCarriage c run.now × (from ≤ to) × (to ≤ length (carried c run.now)) × (at + (to - from) ≤ len) × (frame_size len ≤ length room.old) }
-    ensures { room.new ≡ splice room.old (frame_size at) (outlaid len at (part (carried c run.now) from to)) }
-{
-    let mut i = from;
-    let mut j = at;
-    while i < to {
-        let n = step_of(c, i, j, to - i);
-        let place = carried::place_of(c, i);
-        lay_piece(&run[place..place + n], len, j, room);
-        i += n;
-        j += n;
+    // A part of a payload that a run carries.
+    pub(crate) fn part(&mut self, payload: &Carried, from: usize, to: usize)
+        requires ordered { from ≤ to }
+        requires there { to ≤ length (carried payload.now.by payload.now.run.now) }
+        requires inside { self.old.at + (to - from) ≤ self.old.len }
+        ensures { LaysOn (part (carried payload.now.by payload.now.run.now) from to) self.old self.new }
+    {
+        let mut i = from;
+        while i < to {
+            let most = uncut_from(self.at).min(to - i);
+            let piece = payload.piece(i, most);
+            self.piece(piece);
+            i += piece.len();
+        }
     }
-}
 
-// An object's header, of a code point and so much data.
-pub(crate) fn lay_header(cp: u16, n: usize, len: usize, at: usize, room: &mut [u8])
-    requires { (at + length (header_of cp n) ≤ len) × (frame_size len ≤ length room.old) }
-    ensures { room.new ≡ splice room.old (frame_size at) (outlaid len at (header_of cp n)) }
-{
-    let mut head = [0u8; 12];
-    ddm_builder::lay_header(cp, n, &mut head);
-    let plain = Carriage {
-        lead: 0,
-        continuations: 0,
-    };
-    let end = ddm_builder::serialized_header_len(n);
-    lay_part(&head, plain, 0, end, len, at, room);
+    // An object's header, of a code point and so much data.
+    pub(crate) fn header(&mut self, code_point: u16, n: usize)
+        requires { self.old.at + length (header_of code_point n) ≤ self.old.len }
+        ensures { LaysOn (header_of code_point n) self.old self.new }
+    {
+        let mut head = [0u8; 12];
+        ddm_builder::lay_header(code_point, n, &mut head);
+        let end = ddm_builder::serialized_header_len(n);
+        self.part(&Carried::plain(&head), 0, end);
+    }
 }

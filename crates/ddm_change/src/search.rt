@@ -1,67 +1,64 @@
 // The walk over all parameters of data that stands in a payload from one of its bytes on.
-ghost use Rattle.std.specs.Prelude.{◌≡◌, ◌+◌, ◌≤◌, ◌<◌, length, drop};
-ghost use Rattle.ddm_change.specs.inner.Carried.{SoundCarriage, carried};
-ghost use Rattle.ddm_change.specs.inner.Searching.{param_of, meets, searched};
+ghost use Rattle.std.specs.Prelude.{◌≡◌, ◌+◌, ◌≤◌, ◌<◌, ◌^◌, length, drop};
+ghost use Rattle.ddm_change.specs.inner.Searching.{param_of, meets, searched, found_as};
 
-use super::{Carriage, Param, Searched, Spot, carried};
-use ddm_length::Marshaled;
+use super::{Param, Spot};
+use answer::{Refusal, Refused};
+use ddm_length::{Marshaled, Payload};
 
-// The parameter at a payload byte: its length and code point, or a fault where it has none or raw length 0x8004.
-pub(crate) fn param_in(run: &[u8], c: Carriage, at: usize) -> Param
-    requires { SoundCarriage c run.now × (at ≤ length (carried c run.now)) }
-    ensures { result ≡ param_of (drop at (carried c run.now)) }
+// The parameter at a payload byte: its length and code point; none where none is sound or its raw length is 0x8004.
+pub(crate) fn param_in<P: Payload>(payload: &P, at: usize) -> Option<Param>
+    requires { length (P.bytes payload.now) < 2 ^ 64 }
+    ensures { result ≡ param_of (drop at (P.bytes payload.now)) }
 {
-    match carried::measure_in(run, c, at, 0) {
-        Marshaled::Takes { total, header: _ } => {
-            if carried::u16_in(run, c, at) == 0x8004 {
-                return Param::Fault;
-            }
-            let code_point = carried::u16_in(run, c, at + 2);
-            return Param::Takes { code_point, total };
-        }
-        Marshaled::Refused(_) => {
-            return Param::Fault;
-        }
+    let Marshaled { total, .. } = ddm_length::measure_in(payload, at, 0).ok()?;
+    if ddm_length::u16_in(payload, at) == 0x8004 {
+        return None;
     }
+    let code_point = ddm_length::u16_in(payload, at + 2);
+    Some(Param { code_point, total })
 }
 
 // What has been met behind a parameter: the first stays.
-pub(crate) fn met_behind(met: Spot, wanted: u16, code_point: u16, at: usize, total: usize) -> Spot
-    requires { at + total < 18446744073709551616 }
-    ensures { result ≡ meets met wanted code_point at total }
+pub(crate) fn met_behind(met: Option<Spot>, wanted: u16, param: Param, at: usize) -> Option<Spot>
+    requires { at + param.total < 2 ^ 64 }
+    ensures { result ≡ meets met wanted param.code_point at param.total }
 {
-    match met {
-        Spot::At { from, to } => Spot::At { from, to },
-        Spot::Nowhere => {
-            if code_point == wanted {
-                return Spot::At {
-                    from: at,
-                    to: at + total,
-                };
-            }
-            Spot::Nowhere
-        }
-    }
+    let here = Spot {
+        from: at,
+        to: at + param.total,
+    };
+    met.or((param.code_point == wanted).then_some(here))
 }
 
-// The first parameter with a code point, once all of them are sound; places count from the data's first byte.
-pub(crate) fn search(run: &[u8], c: Carriage, first: usize, wanted: u16) -> Searched
-    requires { SoundCarriage c run.now × (first ≤ length (carried c run.now)) }
-    ensures { result ≡ searched (drop first (carried c run.now)) wanted }
+// The first parameter with a code point, once all of them are sound, or where the one at fault is; places count from the data's
+// first byte.
+pub(crate) fn search<P: Payload>(
+    payload: &P,
+    first: usize,
+    wanted: u16,
+) -> Result<Option<Spot>, usize>
+    requires { first ≤ length (P.bytes payload.now) }
+    ensures { result ≡ searched (drop first (P.bytes payload.now)) wanted }
 {
-    let end = carried::len_in(run, c) - first;
-    let mut met = Spot::Nowhere;
+    let end = payload.len() - first;
+    let mut met = None;
     let mut at: usize = 0;
     while at < end {
-        match param_in(run, c, first + at) {
-            Param::Takes { code_point, total } => {
-                met = met_behind(met, wanted, code_point, at, total);
-                at += total;
-            }
-            Param::Fault => {
-                return Searched::Fault(at);
-            }
-        }
+        let param = param_in(payload, first + at).ok_or(at)?;
+        met = met_behind(met, wanted, param, at);
+        at += param.total;
     }
-    Searched::Sound(met)
+    Ok(met)
+}
+
+// The first parameter of data with a code point: 17, 11.
+pub(crate) fn find(data: &[u8], code_point: u16) -> Result<Spot, Refused>
+    ensures { result ≡ found_as (searched «data».now code_point) }
+{
+    match search(&data, 0, code_point) {
+        Ok(Some(spot)) => Ok(spot),
+        Ok(None) => Err(Refusal::NotFound.at(0)),
+        Err(place) => Err(Refusal::UnsoundData.at(place)),
+    }
 }

@@ -44,30 +44,30 @@ pub returns-then-room-need : goal.returns-then-room-need
 returns-then-room-need c =
     let a = c.args in
     rw (c.no_room.ensures, c.changed_len-need.ensures)
-    (lays_none _ _ _ (rewritten_length a.«data».now a.from a.to a.code_point a.new.now c.requires.0 c.requires.1)
+    (lays_none _ _ _ (rewritten_length a.«data».now a.spot.from a.spot.to a.code_point a.new.now c.requires.0 c.requires.1)
     (omega (arith, c.if-room-need.true, c.changed_len-need.ensures)))
 
 pub overflow_add-behind : goal.overflow_add-behind
 overflow_add-behind c =
     let a = c.args in
-    let roomy : size a.«data».now a.new.now a.room.now a.from a.to a.code_point c.requires.0 c.requires.1 ≤ length a.room.now =
+    let roomy : size a.«data».now a.new.now a.room.now a.spot.from a.spot.to a.code_point c.requires.0 c.requires.1 ≤ length a.room.now =
     capped_fits _ _ (omega (arith, c.changed_len-need.ensures)) (omega arith) in
-    omega (arith, parts a.«data».now a.new.now a.room.now a.from a.to a.code_point c.requires.0 c.requires.1 roomy, c.serialized_header_len.ensures)
+    omega (arith, parts a.«data».now a.new.now a.room.now a.spot.from a.spot.to a.code_point c.requires.0 c.requires.1 roomy, c.serialized_header_len.ensures)
 
 pub overflow_add-behind-2 : goal.overflow_add-behind-2
 overflow_add-behind-2 c =
     let a = c.args in
-    let roomy : size a.«data».now a.new.now a.room.now a.from a.to a.code_point c.requires.0 c.requires.1 ≤ length a.room.now =
+    let roomy : size a.«data».now a.new.now a.room.now a.spot.from a.spot.to a.code_point c.requires.0 c.requires.1 ≤ length a.room.now =
     capped_fits _ _ (omega (arith, c.changed_len-need.ensures)) (omega arith) in
-    omega (arith, parts a.«data».now a.new.now a.room.now a.from a.to a.code_point c.requires.0 c.requires.1 roomy, c.serialized_header_len.ensures)
+    omega (arith, parts a.«data».now a.new.now a.room.now a.spot.from a.spot.to a.code_point c.requires.0 c.requires.1 roomy, c.serialized_header_len.ensures)
 
 pub returns : goal.returns
 returns c =
     let a = c.args in
     let n = c.changed_len-need in
-    let roomy : size a.«data».now a.new.now a.room.now a.from a.to a.code_point c.requires.0 c.requires.1 ≤ length a.room.now =
+    let roomy : size a.«data».now a.new.now a.room.now a.spot.from a.spot.to a.code_point c.requires.0 c.requires.1 ≤ length a.room.now =
     capped_fits _ _ (omega (arith, n.ensures)) (omega arith) in
-    rw (capped_exact (size a.«data».now a.new.now a.room.now a.from a.to a.code_point c.requires.0 c.requires.1) n.result n.ensures (omega (arith, roomy)))
-    (lays_some _ _ _ (rewritten_length a.«data».now a.from a.to a.code_point a.new.now c.requires.0 c.requires.1) _ (omega (arith, roomy))
-    (whole a.«data».now a.new.now a.room.now a.from a.to a.code_point c.requires.0 c.requires.1 roomy _ _ _ _
+    rw (capped_exact (size a.«data».now a.new.now a.room.now a.spot.from a.spot.to a.code_point c.requires.0 c.requires.1) n.result n.ensures (omega (arith, roomy)))
+    (lays_some _ _ _ (rewritten_length a.«data».now a.spot.from a.spot.to a.code_point a.new.now c.requires.0 c.requires.1) _ (omega (arith, roomy))
+    (whole a.«data».now a.new.now a.room.now a.spot.from a.spot.to a.code_point c.requires.0 c.requires.1 roomy _ _ _ _
     c.serialized_header_len.ensures c.lay_at.ensures c.build_param.ensures.room_is c.lay_at-2.ensures))

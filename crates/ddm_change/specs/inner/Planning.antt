@@ -9,13 +9,15 @@ use Rattle.ddm_builder.specs.Built.{built, built_size}
 use Rattle.ddm_change.specs.Alone.{alone_at}
 use Rattle.ddm_change.specs.Change.{Change, changed, faulty, lacking, change_of, unsound, no_such}
 use Rattle.ddm_change.specs.Request.{Changed, lays_frame, refuses_it, reframed, framed_of, request_of}
-use Rattle.ddm_change.specs.inner.Carried.{SoundCarriage, carried, place_of}
+use Rattle.ddm_change.specs.inner.Carried.{carried, place_of}
 use Rattle.ddm_change.specs.declared.Carriage.{Carriage}
 use Rattle.ddm_change.specs.declared.Plan.{Plan}
+use Rattle.ddm_change.specs.declared.Alone.{Alone}
 use Rattle.answer.specs.declared.Refused.{Refused}
 
 -- ---- the frame
 
+-- its end, and how many segments it has
 abbrev pub alone : ℕ → ℕ → Alone
 alone end segments = record { end = end; segments = segments }
 
@@ -41,7 +43,6 @@ outcome s c first lacking = refuses_it no_such
 -- the request is that one frame with one object, and its data decide
 pub record OneObject (s : List ℕ) (c : Carriage) (first : ℕ) : Type 0 where
   pub led : c.lead ≡ 6
-  pub sound : SoundCarriage c s
   pub four : 4 ≤ first
   pub within : first ≤ length (carried c s)
   pub comes : (cp : ℕ) (new : List ℕ) → request_of s cp new ≡ outcome s c first (change_of (drop first (carried c s)) cp new)
@@ -57,31 +58,27 @@ pub record FoundParam (s : List ℕ) (c : Carriage) (first from to cp : ℕ) : T
 
 -- ---- how it is laid down
 
-abbrev pub carriage_of : Plan → Carriage
-carriage_of p = record { lead = 6; continuations = p.continuations }
+abbrev pub payload_of_plan : Plan → List ℕ
+payload_of_plan p = carried p.payload.by p.payload.run.now
 
 -- the object with the parameter rewritten
-abbrev pub payload_after : List ℕ → Plan → ℕ → List ℕ → List ℕ
-payload_after s p cp new =
-    built p.code_point (part (carried (carriage_of p) s) p.first p.from ++ (built cp new ++ drop p.to (carried (carriage_of p) s)))
+abbrev pub payload_after : Plan → ℕ → List ℕ → List ℕ
+payload_after p cp new = built p.code_point (part (payload_of_plan p) p.first p.from ++ (built cp new ++ drop p.to (payload_of_plan p)))
 
 -- the bytes of its data, of n new ones
 abbrev pub data_size : Plan → ℕ → ℕ
-data_size p n = p.from - p.first + (p.end - p.to) + built_size n
+data_size p n = p.from - p.first + (length (payload_of_plan p) - p.to) + built_size n
 
 pub record LayingRequest (s : List ℕ) (cp n : ℕ) (p : Plan) : Type 0 where
-  pub sound : SoundCarriage (carriage_of p) s
+  pub frame_is : p.payload.run.now ≡ s
+  pub led : p.payload.by.lead ≡ 6
   pub behind : p.first ≤ p.from
   pub ordered : p.from ≤ p.to
-  pub inside : p.to ≤ p.end
-  pub ends : p.end ≡ length (carried (carriage_of p) s)
+  pub inside : p.to ≤ length (payload_of_plan p)
   pub data_size_is : p.data_len ≡ capped (data_size p n)
   pub size : p.payload_len ≡ capped (built_size (data_size p n))
-  pub comes : (new : List ℕ) → length new ≡ n → request_of s cp new ≡ lays_frame (reframed s (payload_after s p cp new))
+  pub comes : (new : List ℕ) → length new ≡ n → request_of s cp new ≡ lays_frame (reframed s (payload_after p cp new))
 
 abbrev pub Plans : List ℕ → ℕ → ℕ → Result Plan Refused → Type 0
 Plans s cp n (Ok p) = LayingRequest s cp n p
 Plans s cp n (Err r) = (new : List ℕ) → length new ≡ n → request_of s cp new ≡ refuses_it r
-
-abbrev pub plan_unsound : ℕ → Result Plan Refused
-plan_unsound place = Err (unsound place)

@@ -1,12 +1,11 @@
 -- One pass over the parameters: what each is, and what has been met behind it.
-use Rattle.std.specs.Prelude.{ℕ, ◌+◌, List, eqb, Result, Ok, Err, Some, None}
-use Rattle.std.proofs.Math.Option.{Option, none, some}
+use Rattle.std.specs.Prelude.{ℕ, ◌+◌, List, eqb, Result, Ok, Err, Option, Some, None}
 use Rattle.wire.specs.Bytes.{pick, be16}
 use Rattle.ddm_object.specs.Objects.{Parsed, object, refused, parsed, parameters}
-use Rattle.ddm_change.specs.Change.{fault_from, first_from}
+use Rattle.answer.specs.declared.Refused.{Refused}
+use Rattle.ddm_change.specs.Change.{fault_from, first_from, spot, unsound, no_such}
 use Rattle.ddm_change.specs.declared.Param.{Param}
 use Rattle.ddm_change.specs.declared.Spot.{Spot}
-use Rattle.ddm_change.specs.Change.{spot}
 
 -- ---- one parameter
 
@@ -26,17 +25,23 @@ param_of b = pick (eqb (be16 b 0) 0x8004) None (taken (parsed b 0))
 
 abbrev pub or_else : Option Spot → Option Spot → Option Spot
 or_else None x = x
-or_else (Some (spot a e)) x = Some (spot a e)
+or_else (Some y) x = Some y
 
 abbrev pub meets : Option Spot → ℕ → ℕ → ℕ → ℕ → Option Spot
-meets met wanted cp at total = or_else met (pick (eqb cp wanted) (⟪At⟫ at (at + total)) None)
+meets met wanted cp at total = or_else met (pick (eqb cp wanted) (Some (spot at (at + total))) None)
 
 -- ---- all of them
 
 abbrev pub searched_as : Option ℕ → Option Spot → Result (Option Spot) ℕ
-searched_as none x = Ok x
-searched_as (some place) x = Err place
+searched_as None x = Ok x
+searched_as (Some place) x = Err place
 
 unfoldable pub searched : List ℕ → ℕ → Result (Option Spot) ℕ
 unfolding fault_from first_from parameters
 searched d cp = searched_as (fault_from d 0 (parameters d)) (first_from cp 0 (parameters d))
+
+-- 17 at the place of the one at fault, then 11
+abbrev pub found_as : Result (Option Spot) ℕ → Result Spot Refused
+found_as (Ok (Some x)) = Ok x
+found_as (Ok None) = Err no_such
+found_as (Err place) = Err (unsound place)

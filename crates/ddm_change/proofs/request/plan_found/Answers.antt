@@ -1,21 +1,55 @@
--- `ddm_change::request::plan_found` meets its contract: 18 or the laying down, by the laws of a parameter that is found.
+-- `ddm_change::request::plan_found` meets its contract: the lengths after, as far as they can be counted.
+use Prim.Native.Nat.{ℕ, ◌+◌, ◌-◌}
 use native.Mathlib.Omega.{arith}
-use mathlib.Core.Path.{sym, ◌∙◌}
-use Rattle.ddm_change.proofs.PlanSizes.{found_unreadable, found_laying}
+use mathlib.Core.Path.{◌≡◌, refl, sym, ap, ◌∙◌}
+use lib.ListN.{length}
+use Rattle.answer.specs.Rooms.{capped}
+use Rattle.ddm_builder.specs.Built.{built_size}
+use Rattle.ddm_change.specs.inner.Carried.{carried}
+use Rattle.ddm_change.proofs.CarriedLaws.{carried_length}
+use Rattle.ddm_change.proofs.PlanSizes.{capped_built, found_unreadable, found_laying}
 use Rattle.ddm_change.proofs.request.plan_found.Goals as goal
+
+pub overflow_add-from : goal.overflow_add-from
+overflow_add-from c =
+    let p = c.args.payload in
+    let f = c.requires.found in
+    omega (arith, f.ordered, f.inside, carried_length p.by p.run.now p.sound)
+
+pub overflow_add-to : goal.overflow_add-to
+overflow_add-to c =
+    let p = c.args.payload in
+    let f = c.requires.found in
+    omega (arith, f.inside, carried_length p.by p.run.now p.sound)
 
 pub returns-then-is_unreadable : goal.returns-then-is_unreadable
 returns-then-is_unreadable c =
     let a = c.args in
-    λ new e. found_unreadable a.frame.now a.c a.first a.from a.to a.code_point c.requires.0
-    a.new_len c.requires.1 (omega arith) _ _ _ c.len_in-end.ensures
-    c.changed_len-data_len.ensures c.built_size-payload_len.ensures
-    (sym c.is_unreadable.ensures ∙ c.if-is_unreadable.true) new e
+    let p = a.payload in
+    let v = carried p.by p.run.now in
+    let z : a.spot.from + (c.len.result - (a.first + a.spot.to)) + built_size a.new_len
+    ≡ (a.first + a.spot.from) - a.first + (length v - (a.first + a.spot.to)) + built_size a.new_len = omega (arith, c.len.ensures) in
+    rw c.at.ensures
+    (found_unreadable p.run.now p.by p.sound a.first (a.first + a.spot.from) (a.first + a.spot.to) a.code_point c.requires.found a.new_len c.requires.small (omega arith)
+    _ _ (c.changed_len-data_len.ensures ∙ ap capped z) c.built_size-payload_len.ensures (sym c.is_unreadable.ensures ∙ c.if-is_unreadable.true))
 
 pub returns : goal.returns
 returns c =
     let a = c.args in
-    found_laying a.frame.now a.c a.first a.from a.to a.code_point c.requires.0
-    a.new_len c.requires.1 (omega arith) _ _ _ c.len_in-end.ensures
-    c.changed_len-data_len.ensures c.built_size-payload_len.ensures
-    _ c.u16_in.ensures (sym c.is_unreadable.ensures ∙ c.if-is_unreadable.false)
+    let p = a.payload in
+    let v = carried p.by p.run.now in
+    let f = c.requires.found in
+    let z : a.spot.from + (c.len.result - (a.first + a.spot.to)) + built_size a.new_len
+    ≡ (a.first + a.spot.from) - a.first + (length v - (a.first + a.spot.to)) + built_size a.new_len = omega (arith, c.len.ensures) in
+    let size = c.changed_len-data_len.ensures ∙ ap capped z in
+    record {
+      frame_is = refl;
+      led = f.one.led;
+      behind = f.behind;
+      ordered = f.ordered;
+      inside = f.inside;
+      data_size_is = size;
+      size = c.built_size-payload_len.ensures ∙ ap (λ (x : ℕ). capped (built_size x)) size ∙ capped_built _;
+      comes = found_laying p.run.now p.by p.sound a.first (a.first + a.spot.from) (a.first + a.spot.to) a.code_point f a.new_len c.requires.small (omega arith)
+          _ _ size c.built_size-payload_len.ensures c.u16_in.result c.u16_in.ensures (sym c.is_unreadable.ensures ∙ c.if-is_unreadable.false);
+    }

@@ -1,65 +1,63 @@
 -- `ddm_change::search::search` meets its contract. The invariant: no fault so far, and the first with the code point if it was met.
+use Rattle.std.specs.Prelude.{Option, Some}
+use Rattle.std.proofs.lemmas.Result.{err_from_is_err_and}
+use Prim.Native.Nat.{ℕ, ◌+◌, ◌-◌, ◌≤◌, ◌<◌}
 use native.Mathlib.Omega.{arith}
-use mathlib.Core.Path.{sym, ◌∙◌, ap}
-use lib.ListN.{drop, length-drop}
+use mathlib.Core.Path.{◌≡◌, sym, ◌∙◌, ap}
+use mathlib.Core.List.{List}
+use lib.ListN.{length, drop, length-drop}
 use lib.Seq.{drop-drop}
 use Rattle.ddm_object.proofs.ParamWalks.{sized}
-use Rattle.ddm_change.specs.inner.Carried.{carried}
-use Rattle.ddm_change.proofs.CarriedLaws.{carried_length}
+use Rattle.ddm_change.specs.declared.Param.{Param}
 use Rattle.ddm_change.specs.inner.Searching.{param_of}
 use Rattle.ddm_change.proofs.SearchLaws.{Sane, sane, searching_step, searching_fault, searching_end}
 use Rattle.ddm_change.proofs.search.search.Goals as goal
 
+-- a parameter of the payload v is one of the data that start at its byte `first`
+module _ (v : List ℕ) (first at : ℕ) (m : Option Param) (is : m ≡ param_of (drop (first + at) v)) (x : Param) (some : m ≡ Some x) where
+  here : Sane (drop at (drop first v)) x.code_point x.total
+  here = sane _ _ (ap param_of (drop-drop at first v) ∙ sym is ∙ some)
+
+  inside : at < length v - first → (0 < x.total) × (first + at + x.total ≤ length v)
+  inside h =
+      let q = here in (
+        omega (arith, sized q.reads, q.takes),
+        omega (arith, sized q.reads, q.takes, length-drop at (drop first v), length-drop first v),
+      )
+
 pub met_behind-met-requires : goal.met_behind-met-requires
-met_behind-met-requires c =
+met_behind-met-requires g c =
     let a = c.args in
-    let l = c.loop-at in
-    let v = carried a.c a.run.now in
-    let content = drop a.first v in
-    let q : Sane (drop l.at content) c.in-Takes.code_point c.in-Takes.total =
-    sane _ _ _ (ap param_of (drop-drop l.at a.first v) ∙ sym c.in-Takes.ensures) in
-    omega (arith, sized q.reads, q.takes, length-drop l.at content, length-drop a.first v, c.len_in.ensures, carried_length a.c a.run.now c.requires.0)
+    omega (arith, c.len.ensures, (inside (g.P.Payload.bytes a.payload.now) a.first c.loop-at.at _ c.param_in.ensures _ c.in_ok-param.ensures.ok_part (omega (arith, c.len.ensures))).1)
 
 pub overflow_add-at : goal.overflow_add-at
-overflow_add-at c =
+overflow_add-at g c =
     let a = c.args in
-    let l = c.loop-at in
-    let v = carried a.c a.run.now in
-    let content = drop a.first v in
-    let q : Sane (drop l.at content) c.in-Takes.code_point c.in-Takes.total =
-    sane _ _ _ (ap param_of (drop-drop l.at a.first v) ∙ sym c.in-Takes.ensures) in
-    omega (arith, sized q.reads, q.takes, length-drop l.at content, length-drop a.first v, c.len_in.ensures, carried_length a.c a.run.now c.requires.0)
+    omega (arith, c.len.ensures, (inside (g.P.Payload.bytes a.payload.now) a.first c.loop-at.at _ c.param_in.ensures _ c.in_ok-param.ensures.ok_part (omega (arith, c.len.ensures))).1)
 
 pub loop-at-smaller : goal.loop-at-smaller
-loop-at-smaller c =
+loop-at-smaller g c =
     let a = c.args in
-    let l = c.loop-at in
-    let v = carried a.c a.run.now in
-    let content = drop a.first v in
-    let q : Sane (drop l.at content) c.in-Takes.code_point c.in-Takes.total =
-    sane _ _ _ (ap param_of (drop-drop l.at a.first v) ∙ sym c.in-Takes.ensures) in
-    omega (arith, sized q.reads, q.takes, length-drop l.at content, length-drop a.first v, c.len_in.ensures, carried_length a.c a.run.now c.requires.0)
+    omega (arith, c.len.ensures, inside (g.P.Payload.bytes a.payload.now) a.first c.loop-at.at _ c.param_in.ensures _ c.in_ok-param.ensures.ok_part (omega (arith, c.len.ensures)))
 
 pub loop-at-preserved : goal.loop-at-preserved
-loop-at-preserved c =
+loop-at-preserved g c =
     let a = c.args in
-    let l = c.loop-at in
-    let v = carried a.c a.run.now in
-    let content = drop a.first v in
-    let q : Sane (drop l.at content) c.in-Takes.code_point c.in-Takes.total =
-    sane _ _ _ (ap param_of (drop-drop l.at a.first v) ∙ sym c.in-Takes.ensures) in
-    rw c.met_behind-met.ensures (searching_step _ _ _ _ l.invariant _ _ q)
+    rw c.met_behind-met.ensures
+    (searching_step _ _ _ _ c.loop-at.invariant _ _ (here (g.P.Payload.bytes a.payload.now) a.first c.loop-at.at _ c.param_in.ensures _ c.in_ok-param.ensures.ok_part))
 
-pub returns-in-Fault : goal.returns-in-Fault
-returns-in-Fault c =
+pub returns-in_err-param : goal.returns-in_err-param
+returns-in_err-param g c =
     let a = c.args in
+    let v : List ℕ = g.P.Payload.bytes a.payload.now in
     let l = c.loop-at in
-    let v = carried a.c a.run.now in
-    sym (searching_fault _ _ _ _ l.invariant (omega (arith, c.len_in.ensures, length-drop a.first v))
-    (ap param_of (drop-drop l.at a.first v) ∙ sym c.in-Fault.ensures))
+    let p = err_from_is_err_and c.from_residual.result c.from_residual.ensures.1 in
+    let at : c.in_err-param.field-0.0 ≡ l.at = cc (rw c.in_err-param.ensures.ok_part at c.in_err-param.ensures.value) in
+    rw (p.1, p.2, at)
+    (sym (searching_fault _ _ _ _ l.invariant (omega (arith, c.len.ensures, length-drop a.first v))
+    (ap param_of (drop-drop l.at a.first v) ∙ sym c.param_in.ensures ∙ c.in_err-param.ensures.ok_part)))
 
 pub returns : goal.returns
-returns c =
-    let a = c.args in
-    let v = carried a.c a.run.now in
-    sym (searching_end _ _ _ _ c.loop-at.invariant (omega (arith, c.len_in.ensures, length-drop a.first v)))
+returns g c =
+    let v : List ℕ = g.P.Payload.bytes c.args.payload.now in
+    sym (searching_end _ _ _ _ c.loop-at.invariant (omega (arith, c.loop-at.invariant.within, c.len.ensures, length-drop c.args.first v)))
