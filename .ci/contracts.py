@@ -107,7 +107,7 @@ class Source:
         self.inside = {}  # a constructor's or a field's name: the name of its type
         self.sections = ""  # what the sections' heads say
         text = file.read_text()
-        for match in re.finditer(r"^(?:ghost )?use (\S+?)(?:\.\{([^}]*)\})?(?: as (\S+?))?;?$", text, re.M):
+        for match in re.finditer(r"^ *(?:ghost )?use (\S+?)(?:\.\{([^}]*)\})?(?: as (\S+?))?;?$", text, re.M):
             self._use(*match.groups())
         if file.suffix == ".antt":
             self._define(text.splitlines())

@@ -1,10 +1,10 @@
 -- The theorems of document 02, W-204, over lists.
+use Rattle.std.specs.Prelude.{Option, Some, None}
 use Prim.Native.Nat.{ℕ, ◌+◌, ◌^◌, ◌<◌}
 use native.Mathlib.Omega.{arith}
 use mathlib.Core.Path.{◌≡◌, refl, sym, ◌∙◌, ap, ap₂, subst}
 use mathlib.Core.Logic.{◌⊎◌, inl, inr}
 use mathlib.Core.List.{List, ◌∷◌, ◌++◌}
-use mathlib.Core.Option.{Option, none, some}
 use lib.ListN.{length, take, drop, length-append}
 use lib.Seq.{take_at, drop_at, drop-append-add}
 use Rattle.ddm_builder.specs.Built.{built, built_size}
@@ -20,7 +20,7 @@ use Rattle.change_laws.proofs.SoundData.{sound_pieces, pieces_sound, pieces_appe
 
 module _ (cp : ℕ) (new : List ℕ) where
   -- 17
-  pub change_faulty : (d : List ℕ) (place : ℕ) → fault_from d 0 (parameters d) ≡ some place → change_of d cp new ≡ faulty place
+  pub change_faulty : (d : List ℕ) (place : ℕ) → fault_from d 0 (parameters d) ≡ Some place → change_of d cp new ≡ faulty place
   unfolding change_of
   change_faulty d place e = ap (λ x. unless_faulty x (rewritten_at d cp new (first_from cp 0 (parameters d)))) e
 
@@ -70,8 +70,8 @@ changed_as d cp new b e = go (fault_from d 0 (parameters d)) refl
     sound (inr l) ps = never' (sym (change_lacking cp new d ps l) ∙ e)
 
     go : (f : Option ℕ) → fault_from d 0 (parameters d) ≡ f → ChangedAs d cp new b
-    go none q = let ps : BuiltPieces d (parameters d) = sound_pieces d q in sound (split cp ps) ps
-    go (some place) q = never (sym (change_faulty cp new d place q) ∙ e)
+    go None q = let ps : BuiltPieces d (parameters d) = sound_pieces d q in sound (split cp ps) ps
+    go (Some place) q = never (sym (change_faulty cp new d place q) ∙ e)
 
 -- a split whose parameter is another one
 module _ (cp : ℕ) (new : List ℕ) (small : cp < 65536) (few : length new < 2 ^ 63) where

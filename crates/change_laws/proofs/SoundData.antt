@@ -5,7 +5,6 @@ use native.Mathlib.Omega.{arith}
 use mathlib.Core.Path.{◌≡◌, refl, sym, ◌∙◌, ap, subst}
 use mathlib.Core.Logic.{◌⊎◌, inl, inr}
 use mathlib.Core.List.{List, [], ◌∷◌, ◌++◌, append_assoc}
-use mathlib.Core.Option.{none, some}
 use borrow.Author.Tests.{eqb-true, eqb-false, eq-eqb, ne_eqb}
 use lib.Dec.{eqb}
 use lib.ListN.{length, drop, length-append, length-drop, take-append-drop, drop_of_length-le}
@@ -19,7 +18,7 @@ use Rattle.ddm_object.proofs.ParamWalks.{found, sized, front, takes_all, Walks, 
 use Rattle.ddm_laws.proofs.BuiltLists.{BuiltPieces, more, reached}
 use Rattle.ddm_laws.proofs.BuiltLists as Lists
 use Rattle.ddm_change.specs.Change.{fault_from, first_from}
-use Rattle.ddm_change.specs.Change.{spot}
+use Rattle.ddm_change.specs.inner.Searching.{spot}
 
 -- ---- raw lengths
 
@@ -35,10 +34,10 @@ reads_raw {p} {o} r e =
 
 -- ---- no fault
 
-never : {P : Type 0} {n : ℕ} → some n ≡ none → P
+never : {P : Type 0} {n : ℕ} → Some n ≡ None → P
 never e = absurd (let z : ◌≡◌ {A = ℕ} 0 1 = cc in omega arith)
 
-sound_from : (d : List ℕ) (place : ℕ) {b : List ℕ} {os : List Object} → drop place d ≡ b → place ≤ length d → Walks b os → fault_from d place os ≡ none → BuiltPieces b os
+sound_from : (d : List ℕ) (place : ℕ) {b : List ℕ} {os : List Object} → drop place d ≡ b → place ≤ length d → Walks b os → fault_from d place os ≡ None → BuiltPieces b os
 unfolding fault_from
 sound_from d place q h (stop {b = b} r) e =
     picked (eqb place (length d)) e
@@ -51,10 +50,10 @@ sound_from d place q h (step {b = b} {o = o} {os = os} f w) e =
     (more (front b o f (λ z. eqb-false (be16 d place) 0x8004 t (sym (be16_drop d place) ∙ ap (λ (x : List ℕ). be16 x 0) q ∙ z)))
     (sound_from d (place + c) (sym (drop-drop c place d) ∙ ap (drop c) q) (omega (arith, sized f, ap length q, length-drop place d)) w k)))
 
-pub sound_pieces : (d : List ℕ) → fault_from d 0 (parameters d) ≡ none → BuiltPieces d (parameters d)
+pub sound_pieces : (d : List ℕ) → fault_from d 0 (parameters d) ≡ None → BuiltPieces d (parameters d)
 sound_pieces d e = sound_from d 0 refl (omega arith) (walks d) e
 
-pub pieces_sound : (d : List ℕ) (place : ℕ) {s : List ℕ} {os : List Object} → drop place d ≡ s → place ≤ length d → BuiltPieces s os → fault_from d place os ≡ none
+pub pieces_sound : (d : List ℕ) (place : ℕ) {s : List ℕ} {os : List Object} → drop place d ≡ s → place ≤ length d → BuiltPieces s os → fault_from d place os ≡ None
 unfolding fault_from
 pieces_sound d place q h Lists.none = pick_yes _ _ (eq-eqb place (length d) (omega (arith, ap length q, length-drop place d)))
 pieces_sound d place q h (more {p = p} {s = s} {o = o} r ps) =
@@ -70,20 +69,20 @@ NoneRaw d place [] = Unit {0}
 NoneRaw d place (o ∷ os) = (¬ (be16 d place ≡ 0x8004)) × NoneRaw d (place + o.consumed) os
 
 -- no fault: "the parameters ... reach the data's end", and none "has raw length 0x8004"
-pub no_fault : (d : List ℕ) (place : ℕ) (os : List Object) → fault_from d place os ≡ none → (place + reached os ≡ length d) × NoneRaw d place os
+pub no_fault : (d : List ℕ) (place : ℕ) (os : List Object) → fault_from d place os ≡ None → (place + reached os ≡ length d) × NoneRaw d place os
 unfolding fault_from
 no_fault d place [] e = picked (eqb place (length d)) e (λ t k. (omega (arith, eqb-true place (length d) t), tt)) (λ t k. never k)
 no_fault d place (o ∷ os) e =
     picked (eqb (be16 d place) 0x8004) e (λ t k. never k)
     (λ t k. let r = no_fault d (place + o.consumed) os k in (omega (arith, r.0), (eqb-false (be16 d place) 0x8004 t, r.1)))
 
-pub fault_not : (d : List ℕ) (place : ℕ) (os : List Object) → place + reached os ≡ length d → NoneRaw d place os → fault_from d place os ≡ none
+pub fault_not : (d : List ℕ) (place : ℕ) (os : List Object) → place + reached os ≡ length d → NoneRaw d place os → fault_from d place os ≡ None
 unfolding fault_from
 fault_not d place [] e n = pick_yes _ _ (eq-eqb place (length d) (omega arith))
 fault_not d place (o ∷ os) e n = pick_no _ _ (ne_eqb (be16 d place) 0x8004 n.0) ∙ fault_not d (place + o.consumed) os (omega arith) n.1
 
 -- a fault: its place is where that raw length stands, or where the parameters stop short of the end
-pub fault_at : (d : List ℕ) (place : ℕ) (os : List Object) (p : ℕ) → fault_from d place os ≡ some p
+pub fault_at : (d : List ℕ) (place : ℕ) (os : List Object) (p : ℕ) → fault_from d place os ≡ Some p
     → (be16 d p ≡ 0x8004) ⊎ ((p ≡ place + reached os) × (¬ (p ≡ length d)))
 unfolding fault_from
 fault_at d place [] p e =

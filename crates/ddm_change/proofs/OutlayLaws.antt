@@ -7,13 +7,13 @@ use mathlib.Core.Bool.{Bool, true, false}
 use mathlib.Core.List.{List, [], ◌∷◌, ◌++◌, append_assoc}
 use lib.Dec.{leb, eqb}
 use lib.ListN.{length, length-append}
-use borrow.Author.Tests.{lt-ltb, le-ltb, le-leb, lt-leb, eq-eqb, ne_eqb}
+use borrow.Author.Tests.{le-leb, lt-leb, eq-eqb, ne_eqb}
 use Rattle.wire.specs.Bytes.{pick, and, two}
 use Rattle.wire.proofs.WireLaws.{pick_yes, pick_no, and_both, and_no}
 use Rattle.dss_frame.specs.Written.{frame_size}
-use Rattle.ddm_change.specs.inner.Carried.{uncut, piece_of}
-use Rattle.ddm_change.proofs.CarriedLaws.{uncut_first, uncut_later, uncut_some, piece_most, piece_some}
-use Rattle.ddm_change.specs.inner.Outlay.{starts, raw_at, outlaid, outlay_step}
+use Rattle.ddm_change.specs.inner.Carried.{uncut}
+use Rattle.ddm_change.proofs.CarriedLaws.{uncut_first, uncut_later}
+use Rattle.ddm_change.specs.inner.Outlay.{starts, raw_at, outlaid}
 
 -- ---- where continuations start
 
@@ -104,22 +104,3 @@ module _ (n i : ℕ) (b : List ℕ) (o : 0 < length b) (l : length b ≤ uncut i
 
   pub piece_starting : starts i ≡ true → outlaid n i b ≡ two (raw_at n i) ++ b
   piece_starting e = outlaid_piece n i b o l ∙ ap (λ (m : List ℕ). m ++ b) (pick_yes (two (raw_at n i)) [] e)
-
--- ---- how many bytes go in one step
-
-module _ (k i j most : ℕ) where
-  pub step_here : uncut j < piece_of k i most → outlay_step k i j most ≡ uncut j
-  unfolding outlay_step
-  step_here h = pick_yes _ _ (lt-ltb (uncut j) (piece_of k i most) h)
-
-  pub step_there : piece_of k i most ≤ uncut j → outlay_step k i j most ≡ piece_of k i most
-  unfolding outlay_step
-  step_there h = pick_no _ _ (le-ltb (uncut j) (piece_of k i most) h)
-
-  pub step_is : 0 < most → (0 < outlay_step k i j most) × (outlay_step k i j most ≤ uncut j) × (outlay_step k i j most ≤ piece_of k i most) × (outlay_step k i j most ≤ most)
-  step_is h =
-      let m : piece_of k i most ≤ most = piece_most k i most in
-      elim (dec_le (piece_of k i most) (uncut j)) [
-        | yes l ↦ let e : outlay_step k i j most ≡ piece_of k i most = step_there l in (omega (arith, piece_some k i most h), omega arith, omega arith, omega arith)
-        | no l ↦ let e : outlay_step k i j most ≡ uncut j = step_here (omega arith) in (omega (arith, uncut_some j), omega arith, omega arith, omega arith)
-      ]

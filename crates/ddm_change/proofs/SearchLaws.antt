@@ -25,8 +25,7 @@ use Rattle.ddm_change.specs.Change.{fault_from, first_from, faulty, rewritten_at
 use Rattle.ddm_change.specs.inner.Searching.{taken, param_of, or_else, meets, searched_as, searched, found_as}
 use Rattle.ddm_change.specs.declared.Param.{Param}
 use Rattle.ddm_change.specs.declared.Spot.{Spot}
-use Rattle.ddm_change.specs.inner.Searching.{param}
-use Rattle.ddm_change.specs.Change.{spot}
+use Rattle.ddm_change.specs.inner.Searching.{param, spot}
 use Rattle.ddm_length.specs.Lengths.{takes}
 
 -- ---- one parameter

@@ -17,12 +17,9 @@ fault_from d place [] = pick (eqb place (length d)) None (Some place)
 fault_from d place (o ∷ os) = pick (eqb (be16 d place) 0x8004) (Some place) (fault_from d (place + o.consumed) os)
 
 -- "the first such parameter": from its first byte up to the byte after its last, or nowhere
-abbrev pub spot : ℕ → ℕ → Spot
-spot from to = record { from = from; to = to }
-
 unfoldable pub first_from : ℕ → ℕ → List Object → Option Spot
 first_from cp place [] = None
-first_from cp place (o ∷ os) = pick (eqb o.code_point cp) (Some (spot place (place + o.consumed))) (first_from cp (place + o.consumed) os)
+first_from cp place (o ∷ os) = pick (eqb o.code_point cp) (Some (record { from = place; to = place + o.consumed })) (first_from cp (place + o.consumed) os)
 
 -- ---- the data with that parameter rewritten
 

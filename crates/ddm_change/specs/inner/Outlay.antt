@@ -2,7 +2,6 @@
 -- the other.
 use Rattle.std.specs.Prelude.{ℕ, ◌+◌, ◌-◌, ◌%◌, Bool, List, [], ◌∷◌, ◌++◌, ltb, leb, eqb}
 use Rattle.wire.specs.Bytes.{pick, and, two}
-use Rattle.ddm_change.specs.inner.Carried.{uncut, piece_of}
 
 -- the length in the first segment, of n payload bytes
 abbrev pub raw_first : ℕ → ℕ
@@ -20,8 +19,3 @@ raw_at n i = pick (leb (n - i) 32765) (n - i + 2) 0xFFFF
 unfoldable pub outlaid : ℕ → ℕ → List ℕ → List ℕ
 outlaid n i [] = []
 outlaid n i (b ∷ bs) = pick (starts i) (two (raw_at n i)) [] ++ (b ∷ outlaid n (i + 1) bs)
-
--- how many of `most` bytes from payload byte i on stand in one piece, and are cut by nothing from byte j on
-unfoldable pub outlay_step : ℕ → ℕ → ℕ → ℕ → ℕ
-unfolding uncut piece_of
-outlay_step k i j most = pick (ltb (uncut j) (piece_of k i most)) (uncut j) (piece_of k i most)

@@ -3,7 +3,7 @@ use Rattle.std.specs.Prelude.{ℕ, ◌+◌, List, eqb, Result, Ok, Err, Option, 
 use Rattle.wire.specs.Bytes.{pick, be16}
 use Rattle.ddm_object.specs.Objects.{Parsed, object, refused, parsed, parameters}
 use Rattle.answer.specs.declared.Refused.{Refused}
-use Rattle.ddm_change.specs.Change.{fault_from, first_from, spot, unsound, no_such}
+use Rattle.ddm_change.specs.Change.{fault_from, first_from, unsound, no_such}
 use Rattle.ddm_change.specs.declared.Param.{Param}
 use Rattle.ddm_change.specs.declared.Spot.{Spot}
 
@@ -22,6 +22,9 @@ unfolding parsed
 param_of b = pick (eqb (be16 b 0) 0x8004) None (taken (parsed b 0))
 
 -- ---- what has been met behind a parameter of `total` bytes at `at`
+
+abbrev pub spot : ℕ → ℕ → Spot
+spot from to = record { from = from; to = to }
 
 abbrev pub or_else : Option Spot → Option Spot → Option Spot
 or_else None x = x

@@ -1,5 +1,5 @@
 -- `ddm_change::search::search` meets its contract. The invariant: no fault so far, and the first with the code point if it was met.
-use Rattle.std.specs.Prelude.{Option, Some}
+use Rattle.std.specs.Prelude.{Option, Some, None}
 use Rattle.std.proofs.lemmas.Result.{err_from_is_err_and}
 use Prim.Native.Nat.{ℕ, ◌+◌, ◌-◌, ◌≤◌, ◌<◌}
 use native.Mathlib.Omega.{arith}
@@ -53,9 +53,8 @@ returns-in_err-param g c =
     let l = c.loop-at in
     let p = err_from_is_err_and c.from_residual.result c.from_residual.ensures.1 in
     let at : c.in_err-param.field-0.0 ≡ l.at = cc (rw c.in_err-param.ensures.ok_part at c.in_err-param.ensures.value) in
-    rw (p.1, p.2, at)
-    (sym (searching_fault _ _ _ _ l.invariant (omega (arith, c.len.ensures, length-drop a.first v))
-    (ap param_of (drop-drop l.at a.first v) ∙ sym c.param_in.ensures ∙ c.in_err-param.ensures.ok_part)))
+    let none : param_of (drop l.at (drop a.first v)) ≡ None = ap param_of (drop-drop l.at a.first v) ∙ sym c.param_in.ensures ∙ c.in_err-param.ensures.ok_part in
+    rw (p.1, p.2, at) (sym (searching_fault _ _ _ _ l.invariant (omega (arith, c.len.ensures, length-drop a.first v)) none))
 
 pub returns : goal.returns
 returns g c =
