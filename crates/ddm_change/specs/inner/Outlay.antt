@@ -1,6 +1,6 @@
 -- A payload's bytes as the writer lays them down, a byte at a time: what stands before each, so that parts can be laid down one behind
 -- the other.
-use Rattle.std.specs.Prelude.{ℕ, ◌+◌, ◌-◌, ◌%◌, Bool, List, [], ◌∷◌, ◌++◌, ltb, leb, eqb}
+use Rattle.std.specs.Prelude.{ℕ, ◌+◌, ◌-◌, ◌%◌, Bool, List, [], ◌∷◌, ◌++◌, leb, eqb}
 use Rattle.wire.specs.Bytes.{pick, and, two}
 
 -- the length in the first segment, of n payload bytes
