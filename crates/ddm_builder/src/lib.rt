@@ -13,7 +13,8 @@ use answer::Refused;
 
 const DDM_HEADER_LEN: usize = 4;
 
-// A builder's state: the object's code point, and how much of the lent room is filled with its data.
+// A builder's state: the object's code point, and how much of the lent room is filled with its data. The room is lent to each call:
+// nothing is allocated, and C keeps it. So the fill mark stands in the state, and no `Vec`.
 #[derive(Clone, Copy)]
 pub struct DdmBuilder {
     pub code_point: u16,
@@ -50,7 +51,7 @@ pub fn built_size(n: usize) -> usize
     serialized_header_len(n).saturating_add(n)
 }
 
-// The raw length in a header with so many length bytes, of so much data.
+// The raw length in a header with so many length bytes, of so much data. `as`, and no `try_from`: it fits, by what is required.
 pub(crate) fn raw_length(width: usize, n: usize) -> u16
     requires { raw_length width n < 65536 }
     ensures { result ≡ raw_length width n }
@@ -178,6 +179,8 @@ impl DdmBuilder {
         built_size(self.fill)
     }
 }
+
+// The functions from here on have the Rust's names and parameters; each is one call of a more general one.
 
 // Lays a parameter down at the room's start.
 pub fn build_param(code_point: u16, data: &[u8], room: &mut [u8]) -> Result<usize, Refused>

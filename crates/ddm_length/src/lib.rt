@@ -135,6 +135,7 @@ pub fn measure_in<P: Payload>(payload: &P, at: usize, place: usize) -> Result<Ma
     let Marshaled { total, header } = length_in(payload, at, place)?;
     let actual = payload.len().saturating_sub(at);
     if total < header {
+        // `as`, and no `try_from`: what is below its header is inline, and fits; there is no refusal for what can't be.
         let length = total as u16;
         let code_point = u16_in(payload, at + 2);
         return Err(Refusal::InlineTooShort { length, code_point }.at(place));
@@ -148,6 +149,8 @@ pub fn measure_in<P: Payload>(payload: &P, at: usize, place: usize) -> Result<Ma
     }
     Ok(Marshaled { total, header })
 }
+
+// The next four are public names over a slice; each is one call of a more general one.
 
 // What the length field of an object at a place says; `bytes` is all that stands from the place on: 4, 6, 4, 8.
 pub fn length_at(bytes: &[u8], place: usize) -> Result<Marshaled, Refused>
@@ -205,7 +208,8 @@ pub(crate) fn next_part(data: &[u8]) -> (&[u8], &[u8])
     left.split_at(left.len().min(EXTENDED_DDM_CONTINUATION_CHUNK_LEN))
 }
 
-// How many bytes are left once markers are removed.
+// How many bytes are left once markers are removed. A `while`, here and below, over what is left: the parts have no one length for
+// `chunks`, and an iterator of their own would be longer than both loops.
 pub fn unmarked_len(data: &[u8]) -> usize
     ensures { result ≡ length (unmarked «data».now) }
 {

@@ -1,5 +1,6 @@
 // Building DDM objects for C and Rust: document 01, module 4. Slices, numbers and words go as in the crate gateway_head. A builder
-// goes in as its fill mark, and where its object is built also as the object's code point: adding doesn't look at that one.
+// goes in as its fill mark, and where its object is built also as the object's code point: adding doesn't look at that one. A
+// `usize` goes into a word by `as`: Rust has no `From` for it.
 #![tactic(auto)]
 
 ghost use Rattle.std.specs.Prelude.{◌≡◌};
@@ -32,7 +33,8 @@ pub(crate) fn put_added(words: &mut [u64], added: Result<DdmBuilder, Refused>) -
     }
 }
 
-// ---- adding to a builder's data, from the fill mark on. The result: the fill mark behind what was added.
+// ---- adding to a builder's data, from the fill mark on. The result: the fill mark behind what was added. The functions' names and
+// parameters are C's, here and below.
 
 pub fn lattrugone_builder_add_code_point(
     fill: usize,
