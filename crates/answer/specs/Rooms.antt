@@ -15,7 +15,7 @@ refused_at why place = record { why = why; place = place }
 
 -- 9, with what is needed
 abbrev pub no_room : ℕ → ℕ → ℕ → Refused
-no_room place bytes records = record { why = NoRoom (capped bytes) (capped records); place = place }
+no_room place bytes records = refused_at (NoRoom (capped bytes) (capped records)) place
 
 -- "more bytes than the room ... or more records than the row"
 abbrev pub both_fit : ℕ → ℕ → ℕ → ℕ → Bool
@@ -23,7 +23,7 @@ both_fit bytes size records rows = and (leb bytes size) (leb records rows)
 
 -- 10, with the mark or position and the length of what it is beyond
 abbrev pub out_of_bounds : ℕ → ℕ → Refused
-out_of_bounds mark size = record { why = OutOfBounds mark size; place = mark }
+out_of_bounds mark size = refused_at (OutOfBounds mark size) mark
 
 -- "9 is given exactly when nothing earlier refuses and the result needs more bytes than the room, counted from the fill
 -- mark"; "10 comes first wherever there is a position or mark"; "a call without a record row needs 0 records"

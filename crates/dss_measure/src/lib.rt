@@ -234,7 +234,7 @@ pub(crate) fn absorb(
     let mut header = head;
     let mut segments = 1;
     let mut end = at + seg_len;
-    let mut sofar = payload::started(run, at + DSS_HEADER_LEN, end);
+    let mut sofar = payload::started(&run[at + DSS_HEADER_LEN..end]);
     while let Some(absorbed) = look_behind(
         rules,
         run,
@@ -243,7 +243,7 @@ pub(crate) fn absorb(
         end,
     )? {
         let from = end + DSS_HEADER_LEN + absorbed.dropped;
-        sofar = payload::grown(sofar, run, from, absorbed.end);
+        sofar = payload::grown(sofar, &run[from..absorbed.end]);
         header.flags.chained = absorbed.chained;
         segments += 1;
         end = absorbed.end;

@@ -1,56 +1,38 @@
 // What is kept of a frame's payload so far: its length and its first two bytes.
-ghost use Rattle.std.specs.Prelude.{◌≡◌, ℕ, ◌≤◌, List, ◌++◌, length, get_or};
+ghost use Rattle.std.specs.Prelude.{◌<◌, ◌^◌, ◌+◌, ◌≡◌, ℕ, ◌≤◌, List, ◌++◌, length, get_or};
 ghost use Rattle.wire.specs.Bytes.{part};
 ghost use Rattle.dss_measure.specs.inner.Walking.{payload_so_far, extended_by};
 
 use super::PayloadSoFar;
 
-// A byte of a part of a run; 0 beyond the part.
-pub(crate) fn part_byte(run: &[u8], from: usize, end: usize, i: usize) -> u8
-    requires { from ≤ end }
-    ensures { result ≡ get_or (part run.now from end) i 0 }
+// The payload so far, with bytes behind it.
+pub(crate) fn grown(sofar: PayloadSoFar, more: &[u8]) -> PayloadSoFar
+    requires { sofar.len + length more.now < 2 ^ 64 }
+    ensures { (p : List ℕ) → sofar ≡ payload_so_far p → result ≡ payload_so_far (p ++ more.now) }
 {
-    if end - from <= i {
-        return 0;
-    }
-    wire::byte_at(run, from + i)
-}
-
-// The payload so far, with a part of the run behind it.
-pub(crate) fn grown(sofar: PayloadSoFar, run: &[u8], from: usize, end: usize) -> PayloadSoFar
-    requires { (sofar.len ≤ from) × (from ≤ end) × (end ≤ length run.now) }
-    ensures { (p : List ℕ) → sofar ≡ payload_so_far p → result ≡ payload_so_far (p ++ part run.now from end) }
-{
-    let more = end - from;
     match sofar.len {
-        0 => PayloadSoFar {
-            len: more,
-            first: part_byte(run, from, end, 0),
-            second: part_byte(run, from, end, 1),
-        },
+        0 => started(more),
         1 => PayloadSoFar {
-            len: 1 + more,
-            second: part_byte(run, from, end, 0),
+            len: 1 + more.len(),
+            second: wire::byte_at(more, 0),
             ..sofar
         },
         len => PayloadSoFar {
-            len: len + more,
+            len: len + more.len(),
             ..sofar
         },
     }
 }
 
-// A payload of one part of the run.
-pub(crate) fn started(run: &[u8], from: usize, end: usize) -> PayloadSoFar
-    requires { (from ≤ end) × (end ≤ length run.now) }
-    ensures { result ≡ payload_so_far (part run.now from end) }
+// A payload of these bytes.
+pub(crate) fn started(bytes: &[u8]) -> PayloadSoFar
+    ensures { result ≡ payload_so_far bytes.now }
 {
-    let none = PayloadSoFar {
-        len: 0,
-        first: 0,
-        second: 0,
-    };
-    grown(none, run, from, end)
+    PayloadSoFar {
+        len: bytes.len(),
+        first: wire::byte_at(bytes, 0),
+        second: wire::byte_at(bytes, 1),
+    }
 }
 
 // Whether a payload so far starts an extended object.

@@ -39,13 +39,38 @@ overflow_add-from-in-Some c =
     l.invariant.3 c.starts_extended.ensures _ (sym (rw c.in-Some.is at c.in_ok-absorbed.ensures)) in
     omega (arith, t)
 
+pub slice_bounds-grown-count : goal.slice_bounds-grown-count
+slice_bounds-grown-count c =
+    let a = c.args in
+    let l = c.loop-absorbed in
+    let t = absorbing_there a.rules a.run.now a.at _ l.header l.segments l.end l.sofar c.starts_extended.result
+    l.invariant.3 c.starts_extended.ensures _ (sym (rw c.in-Some.is at c.in_ok-absorbed.ensures)) in
+    omega (arith, t)
+
+pub slice_bounds-grown-start : goal.slice_bounds-grown-start
+slice_bounds-grown-start c =
+    let a = c.args in
+    let l = c.loop-absorbed in
+    let t = absorbing_there a.rules a.run.now a.at _ l.header l.segments l.end l.sofar c.starts_extended.result
+    l.invariant.3 c.starts_extended.ensures _ (sym (rw c.in-Some.is at c.in_ok-absorbed.ensures)) in
+    omega (arith, t)
+
+pub slice_bounds-grown-end : goal.slice_bounds-grown-end
+slice_bounds-grown-end c =
+    let a = c.args in
+    let l = c.loop-absorbed in
+    let t = absorbing_there a.rules a.run.now a.at _ l.header l.segments l.end l.sofar c.starts_extended.result
+    l.invariant.3 c.starts_extended.ensures _ (sym (rw c.in-Some.is at c.in_ok-absorbed.ensures)) in
+    omega (arith, t)
+
 pub grown-sofar-requires : goal.grown-sofar-requires
 grown-sofar-requires c =
     let a = c.args in
     let l = c.loop-absorbed in
     let t = absorbing_there a.rules a.run.now a.at _ l.header l.segments l.end l.sofar c.starts_extended.result
     l.invariant.3 c.starts_extended.ensures _ (sym (rw c.in-Some.is at c.in_ok-absorbed.ensures)) in
-    (omega (arith, t), omega (arith, t), omega (arith, t))
+    let k = part_length a.run.now (l.end + 6 + c.in-Some.absorbed.dropped) c.in-Some.absorbed.end (omega (arith, t)) in
+    omega (arith, t, k)
 
 pub loop-absorbed-smaller : goal.loop-absorbed-smaller
 loop-absorbed-smaller c =
