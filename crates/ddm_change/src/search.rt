@@ -45,7 +45,9 @@ pub(crate) fn search<P: Payload>(
     let mut met = None;
     let mut at: usize = 0;
     while at < end {
-        let param = param_in(payload, first + at).ok_or(at)?;
+        let Some(param) = param_in(payload, first + at) else {
+            return Err(at);
+        };
         met = met_behind(met, wanted, param, at);
         at += param.total;
     }

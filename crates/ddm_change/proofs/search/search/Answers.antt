@@ -1,6 +1,5 @@
 -- `ddm_change::search::search` meets its contract. The invariant: no fault so far, and the first with the code point if it was met.
-use Rattle.std.specs.Prelude.{Option, Some, None}
-use Rattle.std.proofs.lemmas.Result.{err_from_is_err_and}
+use Rattle.std.specs.Prelude.{Some, None}
 use Prim.Native.Nat.{ℕ, ◌+◌, ◌-◌, ◌≤◌, ◌<◌}
 use native.Mathlib.Omega.{arith}
 use mathlib.Core.Path.{◌≡◌, sym, ◌∙◌, ap}
@@ -14,9 +13,9 @@ use Rattle.ddm_change.proofs.SearchLaws.{Sane, sane, searching_step, searching_f
 use Rattle.ddm_change.proofs.search.search.Goals as goal
 
 -- a parameter of the payload v is one of the data that start at its byte `first`
-module _ (v : List ℕ) (first at : ℕ) (m : Option Param) (is : m ≡ param_of (drop (first + at) v)) (x : Param) (some : m ≡ Some x) where
+module _ (v : List ℕ) (first at : ℕ) (x : Param) (is : Some x ≡ param_of (drop (first + at) v)) where
   here : Sane (drop at (drop first v)) x.code_point x.total
-  here = sane _ _ (ap param_of (drop-drop at first v) ∙ sym is ∙ some)
+  here = sane _ _ (ap param_of (drop-drop at first v) ∙ sym is)
 
   inside : at < length v - first → (0 < x.total) × (first + at + x.total ≤ length v)
   inside h =
@@ -28,33 +27,30 @@ module _ (v : List ℕ) (first at : ℕ) (m : Option Param) (is : m ≡ param_of
 pub met_behind-met-requires : goal.met_behind-met-requires
 met_behind-met-requires g c =
     let a = c.args in
-    omega (arith, c.len.ensures, (inside (g.P.Payload.bytes a.payload.now) a.first c.loop-at.at _ c.param_in.ensures _ c.in_ok-param.ensures.ok_part (omega (arith, c.len.ensures))).1)
+    omega (arith, c.len.ensures, (inside (g.P.Payload.bytes a.payload.now) a.first c.loop-at.at _ c.in-Some.ensures (omega (arith, c.len.ensures))).1)
 
 pub overflow_add-at : goal.overflow_add-at
 overflow_add-at g c =
     let a = c.args in
-    omega (arith, c.len.ensures, (inside (g.P.Payload.bytes a.payload.now) a.first c.loop-at.at _ c.param_in.ensures _ c.in_ok-param.ensures.ok_part (omega (arith, c.len.ensures))).1)
+    omega (arith, c.len.ensures, (inside (g.P.Payload.bytes a.payload.now) a.first c.loop-at.at _ c.in-Some.ensures (omega (arith, c.len.ensures))).1)
 
 pub loop-at-smaller : goal.loop-at-smaller
 loop-at-smaller g c =
     let a = c.args in
-    omega (arith, c.len.ensures, inside (g.P.Payload.bytes a.payload.now) a.first c.loop-at.at _ c.param_in.ensures _ c.in_ok-param.ensures.ok_part (omega (arith, c.len.ensures)))
+    omega (arith, c.len.ensures, inside (g.P.Payload.bytes a.payload.now) a.first c.loop-at.at _ c.in-Some.ensures (omega (arith, c.len.ensures)))
 
 pub loop-at-preserved : goal.loop-at-preserved
 loop-at-preserved g c =
     let a = c.args in
     rw c.met_behind-met.ensures
-    (searching_step _ _ _ _ c.loop-at.invariant _ _ (here (g.P.Payload.bytes a.payload.now) a.first c.loop-at.at _ c.param_in.ensures _ c.in_ok-param.ensures.ok_part))
+    (searching_step _ _ _ _ c.loop-at.invariant _ _ (here (g.P.Payload.bytes a.payload.now) a.first c.loop-at.at _ c.in-Some.ensures))
 
-pub returns-in_err-param : goal.returns-in_err-param
-returns-in_err-param g c =
-    let a = c.args in
-    let v : List ℕ = g.P.Payload.bytes a.payload.now in
+pub returns-in_default : goal.returns-in_default
+returns-in_default g c =
+    let v : List ℕ = g.P.Payload.bytes c.args.payload.now in
     let l = c.loop-at in
-    let p = err_from_is_err_and c.from_residual.result c.from_residual.ensures.1 in
-    let at : c.in_err-param.field-0.0 ≡ l.at = cc (rw c.in_err-param.ensures.ok_part at c.in_err-param.ensures.value) in
-    let none : param_of (drop l.at (drop a.first v)) ≡ None = ap param_of (drop-drop l.at a.first v) ∙ sym c.param_in.ensures ∙ c.in_err-param.ensures.ok_part in
-    rw (p.1, p.2, at) (sym (searching_fault _ _ _ _ l.invariant (omega (arith, c.len.ensures, length-drop a.first v)) none))
+    let none : param_of (drop l.at (drop c.args.first v)) ≡ None = ap param_of (drop-drop l.at c.args.first v) ∙ sym c.in_default.ensures in
+    sym (searching_fault _ _ _ _ l.invariant (omega (arith, c.len.ensures, length-drop c.args.first v)) none)
 
 pub returns : goal.returns
 returns g c =
