@@ -46,10 +46,10 @@ given_same s s' p n f e =
     (Err (no_room p (length b) 0), stands_at p))
     e
 
-hands_refused : (d : DssFrame) (next at : DssReader) (r : Refused) → ⟪NotRead⟫ r at ≡ (Ok d, next) → ⊥
+hands_refused : (d : DssFrame) (next at : DssReader) (r : Refused) → ◌≡◌ {A = Result DssFrame Refused × DssReader} (Err r, at) (Ok d, next) → ⊥
 hands_refused d next at r e = let z : ◌≡◌ {A = ℕ} 0 1 = cc in omega arith
 
-hands_next : (d e : DssFrame) (at next : DssReader) → ⟪Hands⟫ e at ≡ (Ok d, next) → at ≡ next
+hands_next : (d e : DssFrame) (at next : DssReader) → ◌≡◌ {A = Result DssFrame Refused × DssReader} (Ok e, at) (Ok d, next) → at ≡ next
 hands_next d e at next k = cc
 
 -- where the reader stands behind the frame that it handed out
@@ -111,7 +111,7 @@ module _ (test : Complete) (stay : TakenStay (read_at Reader) test) (s t : List 
   words_same = go (given_frame s p (length room) (read_at Reader s p)) refl
     where
       go : (x : Result DssFrame Refused × DssReader) → given_frame s p (length room) (read_at Reader s p) ≡ x → (number ≡ 0) × (take 8 answer' ≡ take 8 answer) × (after' ≡ after)
-      go (⟪NotRead⟫ r at) e = absurd (omega (arith, numbered r.why, (first_says (⟪NotRead⟫ r at) e).number_is))
+      go (Err r, at) e = absurd (omega (arith, numbered r.why, (first_says (Err r, at) e).number_is))
       go (Ok d, next) e =
           let w : List ℕ = frame_at next.position d.at d in
           let said : take 8 answer ≡ w = answer_says refl k (first_says (Ok d, next) e) in

@@ -57,7 +57,7 @@ recovers items room row h k r roomAfter rowAfter p =
           p.answers
           ∙ pick_yes _ _ fit
           ∙ ap₂ (λ (n m : ℕ). Ok (counted n m x.tail)) e.1 (ap length e.0)
-          ∙ ap (⟪Done⟫ (length items) (length (all_bytes items))) d.1;
+          ∙ ap (λ (n : ℕ). Ok (counted (length items) (length (all_bytes items)) n)) d.1;
       room_is = p.room_is ∙ pick_yes _ _ fit ∙ ap (splice room 0) e.0;
       row_is = p.row_is ∙ pick_yes _ _ fit;
     }
@@ -69,4 +69,4 @@ pub answered : (items : List (Item written)) (count bytes long : ℕ) → (lengt
 answered items count bytes long e room row h k r roomAfter rowAfter p =
     (recovers items room row (omega (arith, e)) (omega (arith, e)) r roomAfter rowAfter p).is
     ∙ ap₂ (λ (n m : ℕ). Ok (counted n m (length (run items)))) e.0 e.1
-    ∙ ap (⟪Done⟫ count bytes) e.2
+    ∙ ap (λ (n : ℕ). Ok (counted count bytes n)) e.2
