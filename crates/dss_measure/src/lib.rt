@@ -1,4 +1,5 @@
 // Measuring a frame: what it is, how long its payload, where it ends. Touches nothing. Document 01, "Reading".
+// Rules, run and place stay three parameters: the public functions have them, and one struct of the three would be no plainer within.
 #![tactic(auto)]
 
 mod behind; // behind.rt: what a head behind a frame comes to
@@ -134,6 +135,7 @@ pub(crate) fn walk_on(
         mut segments,
         mut payload_len,
     } = before;
+    // No counted loop: where the next continuation starts is read from this one.
     loop {
         let there = run.len() - end;
         if there < DSS_CONTINUATION_HEADER_LEN {

@@ -17,6 +17,9 @@ use dss_head::{
 };
 use dss_measure::FrameMeasure;
 
+// `FitsRoom` stands in three clauses, and in no type: a struct would hold the rules, the run, the place and the lent room for the
+// length of one call, and its functions would be no plainer.
+
 // A part of the run, laid into the room from a place on.
 pub(crate) fn copy_part(run: &[u8], from: usize, end: usize, room: &mut [u8], at: usize)
     requires { (from ≤ end) × (end ≤ length run.now) × (at + (end - from) ≤ length room.old) }
@@ -33,6 +36,7 @@ pub(crate) fn copy_chunks(rules: Rules, run: &[u8], at: usize, room: &mut [u8])
     let mut from = at + DSS_FULL_SEGMENT_LEN;
     let mut fill = DSS_FIRST_PAYLOAD_LEN;
     copy_part(run, at + DSS_HEADER_LEN, from, room, 0);
+    // No counted loop: where the next continuation starts is read from this one.
     loop {
         let raw = wire::u16_at(run, from);
         match dss_measure::chunk_under(rules, raw) {

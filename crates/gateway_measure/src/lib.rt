@@ -14,7 +14,7 @@ use dss_frame::Rules;
 use dss_measure::FrameMeasure;
 use gateway_words::put_refusal;
 
-// Which rules hold: 0 is the reader's, any other number salvage's.
+// Which rules hold: 0 is the reader's, any other number salvage's. A number, as C says it.
 pub fn rules_of(number: u8) -> Rules
     ensures { result ≡ rules_of number }
 {
