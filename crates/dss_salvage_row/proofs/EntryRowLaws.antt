@@ -3,11 +3,12 @@ use Rattle.std.specs.Prelude.{Option, Some, None}
 use Prim.Native.Nat.{ℕ, zero, suc, ◌+◌, ◌-◌, ◌≤◌}
 use native.Mathlib.Omega.{arith}
 use mathlib.Core.Path.{◌≡◌, refl, sym, ap, ◌∙◌}
+use Rattle.dss_row.specs.inner.RowRecords.{one_more}
+use Rattle.dss_row.proofs.RowRecordsLaws.{laid_step, laid_full}
 use mathlib.Core.List.{List, [], ◌∷◌}
-use lib.Dec.{eqb}
 use lib.ListN.{length}
 use borrow.Author.Tests.{eq-eqb, ne_eqb}
-use Rattle.wire.proofs.WireLaws.{pick_yes, pick_no, picked}
+use Rattle.wire.proofs.WireLaws.{pick_yes, pick_no}
 use Rattle.dss_frame.specs.Segments.{payload_of, end_of}
 use Rattle.dss_frame.specs.Reading.{Read, frame, refused}
 use Rattle.dss_frame.specs.Salvage.{Salvaged, entry, stop}
@@ -22,7 +23,7 @@ use Rattle.dss_frame.specs.FrameRecords.{read_bytes}
 use Rattle.dss_salvage.specs.SalvageEntries.{entry_at, salvaged_row}
 use Rattle.dss_salvage.specs.inner.SalvageSteps.{step_at}
 use Rattle.dss_salvage.proofs.SalvageStepping.{OnFrame, OnOver, OnLast, on_frame, on_over, on_last, on_end}
-use Rattle.dss_salvage_row.specs.inner.EntryRows.{placed, entry_found_of, entry_record_at, one_more_entry, entry_records_from}
+use Rattle.dss_salvage_row.specs.inner.EntryRows.{placed, entry_found_of, entry_record_at, entry_records_from}
 
 -- ---- one record
 
@@ -37,40 +38,17 @@ module _ (s : List ℕ) (x : RowPlace) where
   unfolding entry_record_at
   record_step t h e = pick_no _ _ (ne_eqb x.left 0 h) ∙ ap (entry_found_of x) e
 
--- a place behind a record lies no further into the room than into the run, if that before it does
-pub found_low : (s : List ℕ) (x : RowPlace) (r : SalvageEntry) (next : RowPlace) → x.payload_at ≤ x.at → Some (r, next) ≡ entry_record_at s x → next.payload_at ≤ next.at
-unfolding entry_record_at
-found_low s x r next h e =
-    picked (eqb x.left 0) (sym e) (λ t z. let y : ◌≡◌ {A = ℕ} 0 1 = cc in absurd (omega arith)) (λ t z. of_step (step_at s x.at) refl z)
-  where
-    of_step : (t : Step) → step_at s x.at ≡ t → entry_found_of x t ≡ Some (r, next) → next.payload_at ≤ next.at
-    of_step (Frame m) i z =
-        let w : OnFrame s x.at m = on_frame s x.at m i in
-        let a : x.payload_at + m.payload_len ≡ next.payload_at = cc in
-        let b : m.end ≡ next.at = cc in
-        omega (arith, w.measured.thin)
-    of_step (Over q n) i z =
-        let w : OnOver s x.at q n = on_over s x.at q n i in
-        let a : x.payload_at ≡ next.payload_at = cc in
-        let b : n ≡ next.at = cc in
-        omega (arith, w.past)
-    of_step (Last q) i z =
-        let a : x.payload_at ≡ next.payload_at = cc in
-        let b : x.at ≡ next.at = cc in
-        omega arith
-    of_step Ends i z = let y : ◌≡◌ {A = ℕ} 0 1 = cc in absurd (omega arith)
-
 -- ---- a row of them
 
 -- what is found first comes first
-pub records_step : (n : ℕ) (s : List ℕ) (x : RowPlace) (f : Option (SalvageEntry × RowPlace)) → f ≡ entry_record_at s x → entry_records_from (suc n) s x ≡ one_more_entry f (entry_records_from n s)
+pub records_step : (n : ℕ) (s : List ℕ) (x : RowPlace) (f : Option (SalvageEntry × RowPlace)) → f ≡ entry_record_at s x → entry_records_from (suc n) s x ≡ one_more f (entry_records_from n s)
 unfolding entry_records_from
-records_step n s x f e = ap (λ (g : Option (SalvageEntry × RowPlace)). one_more_entry g (λ next. entry_records_from n s next)) (sym e)
+records_step n s x f e = laid_step (entry_record_at s) n x f e
 
 -- a row with no place left
 pub records_full : (s : List ℕ) (x : RowPlace) → entry_records_from 0 s x ≡ []
 unfolding entry_records_from
-records_full s x = refl
+records_full s x = laid_full (entry_record_at s) x
 
 -- none are to come
 pub records_none : (n : ℕ) (s : List ℕ) (x : RowPlace) → x.left ≡ 0 → entry_records_from n s x ≡ []

@@ -1,8 +1,9 @@
 -- The records of a salvage reading's entries, from a place on: document 01, "Salvage reading".
-use Rattle.std.specs.Prelude.{ℕ, zero, suc, ◌+◌, ◌-◌, List, [], ◌∷◌, eqb, Option, Some, None}
+use Rattle.std.specs.Prelude.{ℕ, ◌+◌, ◌-◌, List, eqb, Option, Some, None}
 use Rattle.wire.specs.Bytes.{pick}
 use Rattle.dss_measure.specs.Measure.{measured_record}
 use Rattle.dss_frame.specs.declared.RowPlace.{RowPlace}
+use Rattle.dss_row.specs.inner.RowRecords.{laid_from}
 use Rattle.dss_salvage.specs.declared.SalvageEntry.{SalvageEntry}
 use Rattle.dss_salvage.specs.declared.Entry.TheVariants.{Frame as Framed, Refused as Refuses}
 use Rattle.dss_salvage.specs.declared.Step.{Step}
@@ -25,12 +26,7 @@ unfoldable pub entry_record_at : List ℕ → RowPlace → Option (SalvageEntry 
 unfolding step_at
 entry_record_at s x = pick (eqb x.left 0) None (entry_found_of x (step_at s x.at))
 
-abbrev pub one_more_entry : Option (SalvageEntry × RowPlace) → (RowPlace → List SalvageEntry) → List SalvageEntry
-one_more_entry (Some (r, next)) more = r ∷ more next
-one_more_entry None more = []
-
 -- the records from a place on, at most n of them
 unfoldable pub entry_records_from : ℕ → List ℕ → RowPlace → List SalvageEntry
-unfolding entry_record_at
-entry_records_from zero s x = []
-entry_records_from (suc n) s x = one_more_entry (entry_record_at s x) (λ next. entry_records_from n s next)
+unfolding entry_record_at laid_from
+entry_records_from n s x = laid_from (entry_record_at s) n x
