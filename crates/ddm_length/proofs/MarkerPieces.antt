@@ -13,7 +13,7 @@ use Rattle.wire.specs.Bytes.{or, be16, splice, laid}
 use Rattle.wire.proofs.WireLaws.{by, true_false, and_split, be16_same}
 use Rattle.wire.proofs.Splicing.{splice_length, splice_splice, laid_fits}
 use Rattle.ddm_length.specs.Markers.{marker_first, past_marker, has_markers, unmarked}
-use Rattle.ddm_length.specs.inner.Keeping.{kept, KeptPart, Keeping}
+use Rattle.ddm_length.specs.inner.Keeping.{kept, KeptPart}
 use Rattle.ddm_length.proofs.MarkerLaws.{kept_none, kept_some, rest_length, marked_unmarked}
 
 -- the two bytes at a place are those at the start of what stands from there on
@@ -57,6 +57,10 @@ kept_part (x ∷ d) p m h q e =
     }
 
 -- ---- the loop over parts: `fill` bytes are kept so far, and `left` is what is left of the data
+
+pub record Keeping (d left : List ℕ) (fill : ℕ) : Type 0 where
+  pub few : fill ≤ length (unmarked d)
+  pub rest : drop fill (unmarked d) ≡ kept left
 
 pub keeping_start : (d : List ℕ) → has_markers d ≡ true → (32757 < length d) × Keeping d (drop 32757 d) 32757
 keeping_start d e =

@@ -4,7 +4,7 @@ use mathlib.Core.Path.{◌≡◌}
 use lib.ListN.{length, take}
 use Rattle.wire.specs.Bytes.{splice}
 use Rattle.ddm_length.specs.Markers.{unmarked}
-use Rattle.ddm_length.specs.inner.Keeping.{Keeping}
+use Rattle.ddm_length.proofs.MarkerPieces.{Keeping}
 use Rattle.ddm_length.proofs.lay_kept.Given as goal
 
 abbrev pub invariant-loop-left : goal.invariant-loop-left

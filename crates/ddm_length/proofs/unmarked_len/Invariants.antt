@@ -1,6 +1,6 @@
 -- `ddm_length::unmarked_len` meets its contract. The invariant: so many bytes are kept so far, and so much is left of the data.
 use lib.ListN.{length}
-use Rattle.ddm_length.specs.inner.Keeping.{Keeping}
+use Rattle.ddm_length.proofs.MarkerPieces.{Keeping}
 use Rattle.ddm_length.proofs.unmarked_len.Given as goal
 
 abbrev pub invariant-loop-left : goal.invariant-loop-left

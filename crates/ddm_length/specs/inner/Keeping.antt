@@ -1,6 +1,6 @@
--- What the walk over data with markers has kept of them, as its loop stands.
-use Rattle.std.specs.Prelude.{ℕ, ◌≤◌, ◌<◌, ◌≡◌, List, ◌++◌, length, drop}
-use Rattle.ddm_length.specs.Markers.{kept_fuel, unmarked}
+-- What the walk over data with markers keeps of them.
+use Rattle.std.specs.Prelude.{ℕ, ◌<◌, ◌≡◌, List, ◌++◌, length}
+use Rattle.ddm_length.specs.Markers.{kept_fuel}
 
 -- "then, until the end, a marker at hand is dropped and up to 32,764 bytes are kept"
 unfoldable pub kept : List ℕ → List ℕ
@@ -11,8 +11,3 @@ kept d = kept_fuel (length d) d
 pub record KeptPart (d p behind : List ℕ) : Type 0 where
   pub keeps : kept d ≡ p ++ kept behind
   pub on : length behind < length d
-
--- so many bytes are kept of data, and this is left of it
-pub record Keeping (d left : List ℕ) (fill : ℕ) : Type 0 where
-  pub few : fill ≤ length (unmarked d)
-  pub rest : drop fill (unmarked d) ≡ kept left
