@@ -1,15 +1,15 @@
 -- What the part of the salvage call that needs no row answers, what it leaves in the room, and that the whole call follows.
 use Rattle.std.specs.Prelude.{Result, Ok}
-use Prim.Native.Nat.{ℕ, ◌≤◌, ◌<◌}
+use Prim.Native.Nat.{ℕ, ◌≤◌}
 use native.Mathlib.Omega.{arith}
 use mathlib.Core.Path.{◌≡◌, refl, sym, ap, ap₂, ◌∙◌}
-use mathlib.Core.Bool.{Bool, true, false}
+use mathlib.Core.Bool.{Bool, true}
 use mathlib.Core.List.{List}
 use lib.Dec.{leb}
 use lib.ListN.{length}
-use borrow.Author.Tests.{le-leb, lt-leb, leb-true}
-use Rattle.wire.specs.Bytes.{and, splice, landed}
-use Rattle.wire.proofs.WireLaws.{by, pick_yes, pick_no, and_both, and_split, and_no}
+use borrow.Author.Tests.{le-leb, leb-true}
+use Rattle.wire.specs.Bytes.{splice, landed}
+use Rattle.wire.proofs.WireLaws.{by, pick_yes, pick_no, and_both, and_split}
 use Rattle.dss_frame.specs.Salvage.{salvaged}
 use Rattle.dss_frame.specs.Salvage as reading
 use Rattle.dss_laws.proofs.SalvageLaws.{salvaged_from, salvaged_from_lem}
@@ -22,7 +22,7 @@ use Rattle.dss_frame.specs.inner.RowStart.{starts_at}
 use Rattle.wire.proofs.FilledRow.{splice_nothing}
 use Rattle.dss_salvage_row.specs.inner.EntryRows.{placed, entry_records_from}
 use Rattle.dss_salvage_row.proofs.EntryRowLaws.{records_none, records_all}
-use Rattle.dss_salvage_call.specs.inner.SalvageGathered.{bytes_in, not_salvaged}
+use Rattle.dss_salvage_call.specs.inner.SalvageGathered.{bytes_in}
 use Rattle.answer.specs.declared.Refused.{Refused}
 use Rattle.dss_salvage.specs.inner.SalvageMeasure.{counted}
 
@@ -32,21 +32,8 @@ module _ (s room : List ℕ) (rows : ℕ) (x : reading.Salvaged) (k n : ℕ) (co
   abbrev fits : Bool
   fits = entries_fit s x.entries (length room) rows
 
-  -- more bytes than the room has, or more records than the row
-  room_short : length room < n → fits ≡ false
-  room_short h = ap (λ (t : Bool). and t (leb (length x.entries) rows)) (lt-leb (length (salvaged_bytes s x.entries)) (length room) (omega arith))
-
-  row_short : rows < k → fits ≡ false
-  row_short h =
-      ap (λ (t : Bool). and (leb (length (salvaged_bytes s x.entries)) (length room)) t) (lt-leb (length x.entries) rows (omega arith))
-      ∙ and_no (leb (length (salvaged_bytes s x.entries)) (length room))
-
   both_fit : n ≤ length room → k ≤ rows → fits ≡ true
   both_fit h j = and_both _ _ (le-leb (length (salvaged_bytes s x.entries)) (length room) (omega arith)) (le-leb (length x.entries) rows (omega arith))
-
-  -- 9
-  given_not : fits ≡ false → given_entries s (length room) rows x ≡ not_salvaged n k
-  given_not e = pick_no _ _ e ∙ ap₂ not_salvaged bytes count
 
   -- 0
   given_done : fits ≡ true → given_entries s (length room) rows x ≡ Ok (counted k n x.tail)
@@ -58,16 +45,6 @@ module _ (s room : List ℕ) (rows : ℕ) (v : Salvaging) (e : v ≡ salvaging_o
 
   sums : length (salvaged_bytes s (salvaged s).entries) ≡ v.bytes
   sums = sym (ap (λ (w : Salvaging). w.bytes) e)
-
-  -- 9, and the room as it was
-  gathers_not : (r : Result Salvaging Refused) → r ≡ not_salvaged v.bytes v.count → entries_fit s (salvaged s).entries (length room) rows ≡ false → GathersEntries s room rows r room
-  gathers_not r i t = record { answers = i ∙ sym (given_not s room rows (salvaged s) v.count v.bytes counts sums t); room_is = sym (pick_no _ _ t) }
-
-  pub gathers_short : (r : Result Salvaging Refused) → r ≡ not_salvaged v.bytes v.count → length room < v.bytes → GathersEntries s room rows r room
-  gathers_short r i h = gathers_not r i (room_short s room rows (salvaged s) v.count v.bytes counts sums h)
-
-  pub gathers_few : (r : Result Salvaging Refused) → r ≡ not_salvaged v.bytes v.count → rows < v.count → GathersEntries s room rows r room
-  gathers_few r i h = gathers_not r i (row_short s room rows (salvaged s) v.count v.bytes counts sums h)
 
   -- the payloads have so many bytes
   pub bytes_in_is : length (bytes_in s) ≡ v.bytes

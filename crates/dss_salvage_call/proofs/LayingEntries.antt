@@ -1,5 +1,5 @@
 -- Payloads laid end to end while the walk goes on: what is left of them, and the room that they lead to.
-use Rattle.std.specs.Prelude.{Result}
+use Rattle.std.specs.Prelude.{Result, Err}
 use Prim.Native.Nat.{ℕ, ◌+◌, ◌-◌, ◌≤◌}
 use native.Mathlib.Omega.{arith}
 use mathlib.Core.Path.{◌≡◌, refl, sym, ap, ap₂, ◌∙◌, subst}
@@ -20,7 +20,11 @@ use Rattle.dss_measure.specs.declared.FrameMeasure.{FrameMeasure}
 use Rattle.dss_measure.specs.Measure.{measure_of, measured_of, measured_at}
 use Rattle.dss_take.specs.Take.{taken_of, room_read, Takes}
 use Rattle.dss_salvage.specs.SalvageEntries.{salvaged_bytes}
-use Rattle.dss_salvage.proofs.SalvageStepping.{OnFrame, OnOver, OnLast, on_frame, step_frame}
+use Rattle.dss_measure.proofs.Measures.{measured_not}
+use Rattle.dss_salvage.specs.declared.Step.{Step}
+use Rattle.dss_salvage.specs.declared.Step.TheVariants.{Frame as OneFrame, Over, Last, End}
+use Rattle.dss_salvage.specs.inner.SalvageSteps.{step_at}
+use Rattle.dss_salvage.proofs.SalvageStepping.{OnFrame, OnOver, OnLast, on_frame, on_last, on_end, step_frame}
 use Rattle.dss_salvage_call.specs.inner.SalvageGathered.{bytes_in}
 
 -- the payloads from a place on
@@ -48,6 +52,17 @@ module _ (s : List ℕ) (p : ℕ) where
   pub bytes_end : salvaged_from s p ≡ stop p → bytes_from s p ≡ []
   unfolding bytes_from salvaged_bytes
   bytes_end i = ap (λ (x : Salvaged). salvaged_bytes s x.entries) i
+
+  -- nothing is left where a refusal isn't stepped over
+  pub bytes_stop : (r : Refused) (t : Step) → measured_at Salvage s p ≡ Err r → step_at s p ≡ t → ((x : Refused) (q : ℕ) → t ≡ Over x q → ⊥) → bytes_from s p ≡ []
+  bytes_stop r (OneFrame m) i e n =
+      let f = (on_frame s p m e).measured.reads in
+      let g = measured_not Salvage s p r i in
+      let z : ◌≡◌ {A = ℕ} 0 1 = cc in
+      absurd (omega arith)
+  bytes_stop r (Over x q) i e n = absurd (n x q refl)
+  bytes_stop r (Last x) i e n = bytes_last x (on_last s p x e)
+  bytes_stop r End i e n = bytes_end (on_end s p e)
 
 -- ---- the room that it leads to
 

@@ -27,7 +27,7 @@ pub record SalvagesRun (s room : List ℕ) (row : List SalvageEntry) (r : Result
 
 -- how many entries an answer has
 abbrev pub entries_in : Result Salvaging Refused → ℕ
-entries_in (Ok (counted count bytes tail)) = count
+entries_in (Ok m) = m.count
 entries_in (Err r) = 0
 
 -- the call without the row, which has so many places

@@ -4,12 +4,11 @@
 ghost use Rattle.std.specs.Prelude.{◌≡◌, ◌≤◌, length};
 ghost use Rattle.wire.specs.Bytes.{splice};
 ghost use Rattle.dss_salvage_call.specs.SalvageCall.{SalvagesRun, GathersEntries, entries_in};
-ghost use Rattle.dss_salvage_call.specs.inner.SalvageGathered.{bytes_in, not_salvaged};
+ghost use Rattle.dss_salvage_call.specs.inner.SalvageGathered.{bytes_in};
 
 use answer::Refused;
 use dss_frame::Rules;
-use dss_measure::Measured;
-use dss_salvage::{SalvageEntry, Salvaged, Step};
+use dss_salvage::{SalvageEntry, Salvaging, Step};
 
 // The payloads of all frames of a run, laid into the room end to end.
 pub(crate) fn lay_payloads(run: &[u8], room: &mut [u8])
@@ -20,21 +19,15 @@ pub(crate) fn lay_payloads(run: &[u8], room: &mut [u8])
     let mut filled = 0;
     loop {
         match dss_take::take(Rules::Salvage, run, at, &mut room[filled..]) {
-            Measured::Frame(measure) => {
+            Ok(measure) => {
                 filled += measure.payload_len;
                 at = measure.end;
             }
-            Measured::Refused(refused) => match dss_salvage::step_over(run, at, refused) {
+            Err(refused) => match dss_salvage::step_over(run, at, refused) {
                 Step::Over(_, next) => {
                     at = next;
                 }
-                Step::Frame(_) => {
-                    return;
-                }
-                Step::Last(_) => {
-                    return;
-                }
-                Step::End => {
+                _ => {
                     return;
                 }
             },
@@ -42,50 +35,31 @@ pub(crate) fn lay_payloads(run: &[u8], room: &mut [u8])
     }
 }
 
-// 9, with the bytes and the records that are needed.
-pub(crate) fn no_room(bytes: usize, count: usize) -> Salvaged
-    ensures { result ≡ not_salvaged bytes count }
-{
-    Salvaged::Refused(Refused::no_room(bytes, count, 0))
-}
-
-// What a salvage reading comes to with so many rows, its payloads in the room: measured first, and laid down if all fits.
-pub fn gather_entries(run: &[u8], room: &mut [u8], rows: usize) -> Salvaged
+// What a salvage reading comes to with so many rows, its payloads in the room: measured first, and laid down if all fits. The one
+// refusal is 9.
+pub fn gather_entries(run: &[u8], room: &mut [u8], rows: usize) -> Result<Salvaging, Refused>
     ensures { GathersEntries run.now room.old rows result room.new }
 {
     let all = dss_salvage::measure_salvage(run);
-    let count = all.count;
-    let bytes = all.bytes;
-    if room.len() < bytes {
-        return no_room(bytes, count);
-    }
-    if rows < count {
-        return no_room(bytes, count);
+    if room.len() < all.bytes || rows < all.count {
+        return Err(Refused::no_room(all.bytes, all.count, 0));
     }
     lay_payloads(run, room);
-    Salvaged::Done {
-        count,
-        bytes,
-        tail: all.tail,
-    }
+    Ok(all)
 }
 
 // How many entries an answer has.
-pub fn entries_in(salvaged: Salvaged) -> usize
+pub fn entries_in(salvaged: Result<Salvaging, Refused>) -> usize
     ensures { result ≡ entries_in salvaged }
 {
     match salvaged {
-        Salvaged::Done {
-            count,
-            bytes: _,
-            tail: _,
-        } => count,
-        Salvaged::Refused(_) => 0,
+        Ok(all) => all.count,
+        Err(_) => 0,
     }
 }
 
 // All that can be read of a run: the payloads of its frames end to end in the room, one record for each entry in the row.
-pub fn salvage(run: &[u8], room: &mut [u8], row: &mut [SalvageEntry]) -> Salvaged
+pub fn salvage(run: &[u8], room: &mut [u8], row: &mut [SalvageEntry]) -> Result<Salvaging, Refused>
     ensures { SalvagesRun run.now room.old row.old result room.new row.new }
 {
     let salvaged = gather_entries(run, room, row.len());
