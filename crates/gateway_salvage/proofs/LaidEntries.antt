@@ -46,6 +46,13 @@ pub record LaysEntries (s start aim row : List ℕ) (p a n k : ℕ) : Type 0 whe
 pub lays_start : (s row : List ℕ) (k : ℕ) → record_len * k ≤ length row → LaysEntries s row (splice row 0 (entry_words_from s 0 0 k)) row 0 0 0 k
 lays_start s row k h = record { fits = omega arith; low = omega arith; laying = laying_start row (entry_words_from s 0 0 k) }
 
+-- the next one, by its place in the row
+pub lays_next : {s start aim row : List ℕ} {p a : ℕ} (i count : ℕ) → LaysEntries s start aim row p a (record_len * i + record_len) ((count - i) - 1) → LaysEntries s start aim row p a (record_len * (i + 1)) (count - (i + 1))
+lays_next i count l =
+    let e : record_len * (i + 1) ≡ record_len * i + record_len = omega arith in
+    let f : count - (i + 1) ≡ (count - i) - 1 = omega arith in
+    rw (e, f) l
+
 abbrev refusing : Refused → ℕ → ℕ → SalvageEntry
 refusing r p e = record { entry = Refuses r p e }
 

@@ -11,7 +11,6 @@ use Rattle.gateway_words.specs.AnswerWords.{refusal_words, done_words, LeavesRow
 use Rattle.gateway_row.specs.RowWords.{record_words, refused_words, places}
 use Rattle.answer.specs.declared.Refused.{Refused}
 use Rattle.dss_salvage.specs.declared.Salvaging.{Salvaging}
-use Rattle.dss_salvage.specs.inner.SalvageMeasure.{counted}
 
 -- "Entries are listed in order, one record each, a refusal's without payload": a frame's first word is 0, a refusal's its number; the
 -- last two say where it stood
@@ -24,7 +23,7 @@ entry_words e = words_of e.entry
 
 -- how many entries, how many bytes their payloads have, the tail's place; "the one refusal of the call is 9"
 abbrev pub salvaged_words : Result Salvaging Refused → List ℕ
-salvaged_words (Ok (counted count bytes tail)) = done_words count bytes tail 0
+salvaged_words (Ok m) = done_words m.count m.bytes m.tail 0
 salvaged_words (Err r) = refusal_words r
 
 -- what salvaging a run answers, and what the lent words, room and row then hold

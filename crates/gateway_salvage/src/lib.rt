@@ -10,7 +10,8 @@ ghost use Rattle.gateway_words.specs.AnswerWords.{Answered};
 ghost use Rattle.gateway_row.specs.RowWords.{record_len};
 ghost use Rattle.gateway_salvage.specs.SalvageWords.{entry_words, salvaged_words, SalvagesInWords};
 
-use dss_salvage::{Salvaged, Step};
+use answer::Refused;
+use dss_salvage::{Salvaging, Step};
 use gateway_row::{RECORD_WORDS, put_record, put_refused};
 use gateway_words::{put_done, put_refusal};
 
@@ -21,9 +22,9 @@ pub(crate) fn lay_entries(run: &[u8], count: usize, row: &mut [u64])
 {
     let mut at = 0;
     let mut payload_at = 0;
-    let mut filled = 0;
-    let mut left = count;
-    while 0 < left {
+    // by place: a proof doesn't see what is written through chunks_exact_mut
+    for i in 0..count {
+        let filled = RECORD_WORDS * i;
         let next = filled + RECORD_WORDS;
         match dss_salvage::step_at(run, at) {
             Step::Frame(measure) => {
@@ -31,14 +32,10 @@ pub(crate) fn lay_entries(run: &[u8], count: usize, row: &mut [u64])
                 put_record(&mut row[filled..next], record);
                 at = measure.end;
                 payload_at += measure.payload_len;
-                filled = next;
-                left -= 1;
             }
             Step::Over(refused, end) => {
                 put_refused(&mut row[filled..next], refused, at, end);
                 at = end;
-                filled = next;
-                left -= 1;
             }
             Step::Last(refused) => {
                 put_refused(&mut row[filled..next], refused, at, at);
@@ -52,14 +49,14 @@ pub(crate) fn lay_entries(run: &[u8], count: usize, row: &mut [u64])
 }
 
 // How many entries were listed, how many bytes their payloads have and the tail's place; or that there is no room.
-pub(crate) fn put_salvaged(words: &mut [u64], salvaged: Salvaged) -> u8
+pub(crate) fn put_salvaged(words: &mut [u64], salvaged: Result<Salvaging, Refused>) -> u8
     ensures { Answered (salvaged_words salvaged) words.old result words.new }
 {
     match salvaged {
-        Salvaged::Done { count, bytes, tail } => {
+        Ok(Salvaging { count, bytes, tail }) => {
             put_done(words, count as u64, bytes as u64, tail as u64, 0)
         }
-        Salvaged::Refused(refused) => put_refusal(words, refused),
+        Err(refused) => put_refusal(words, refused),
     }
 }
 
