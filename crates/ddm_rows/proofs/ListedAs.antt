@@ -12,8 +12,8 @@ use Rattle.answer.specs.declared.Refused.{Refused}
 use Rattle.ddm_object.specs.Objects.{Object, AllParsed, objects, refused_all, all_objects, parameters}
 use Rattle.ddm_object.specs.declared.DdmObject.{DdmObject}
 use Rattle.ddm_rows.specs.ListCalls.{object_records, objects_fit, given_list, listed, Lists}
-use Rattle.ddm_rows.specs.ObjectRows.{count_of, TakesWork}
-use Rattle.ddm_rows.specs.inner.RowsFilled.{recs_from, RowFilled}
+use Rattle.ddm_rows.specs.ObjectRows.{TakesWork}
+use Rattle.ddm_rows.specs.inner.RowsFilled.{count_of, recs_from, RowFilled}
 use Rattle.ddm_rows.specs.declared.ObjectsFound.{ObjectsFound}
 use Rattle.ddm_rows.proofs.ObjectLists.{objects_parameters}
 use Rattle.ddm_rows.proofs.ObjectRowLaws.{recs_records, from_start, none_landed}

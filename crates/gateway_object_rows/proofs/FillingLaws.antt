@@ -17,7 +17,8 @@ use Rattle.ddm_length.proofs.LentData.{lent_laid}
 use Rattle.ddm_object.specs.Objects.{Object, AllParsed, objects, refused_all, parameters}
 use Rattle.ddm_rows.specs.ListCalls.{works_of, object_records, objects_fit, given_list, listed}
 use Rattle.ddm_object.specs.ObjectCalls.{param_step_at}
-use Rattle.ddm_rows.specs.ObjectRows.{count_of, TakesWork}
+use Rattle.ddm_rows.specs.ObjectRows.{TakesWork}
+use Rattle.ddm_rows.specs.inner.RowsFilled.{count_of}
 use Rattle.ddm_rows.specs.inner.RowsFilled.{one_more_object, recs_from}
 use Rattle.ddm_rows.proofs.ObjectRowLaws.{recs_records}
 use Rattle.ddm_object.specs.declared.DdmObject.{DdmObject}

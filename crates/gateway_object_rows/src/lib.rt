@@ -5,7 +5,7 @@
 ghost use Rattle.std.specs.Prelude.{◌≡◌, ◌*◌, ◌≤◌, length};
 ghost use Rattle.wire.specs.Bytes.{splice};
 ghost use Rattle.ddm_rows.specs.inner.RowsFilled.{recs_from};
-ghost use Rattle.ddm_rows.specs.ObjectRows.{count_of};
+ghost use Rattle.ddm_rows.specs.inner.RowsFilled.{count_of};
 ghost use Rattle.gateway_object_rows.specs.ListWords.{object_len, list_row, ObjectsWords, ParametersWords};
 ghost use Rattle.gateway_object_rows.specs.inner.Listed.{ListedWords};
 

@@ -3,7 +3,7 @@ use Rattle.std.specs.Prelude.{ℕ, ◌≡◌, List, Result}
 use Rattle.wire.specs.Bytes.{splice}
 use Rattle.answer.specs.declared.Refused.{Refused}
 use Rattle.ddm_rows.specs.declared.ObjectsFound.{ObjectsFound}
-use Rattle.ddm_rows.specs.ObjectRows.{count_of}
+use Rattle.ddm_rows.specs.inner.RowsFilled.{count_of}
 use Rattle.ddm_rows.specs.inner.RowsFilled.{recs_from}
 use Rattle.gateway_words.specs.AnswerWords.{Answered}
 use Rattle.gateway_object_rows.specs.ListWords.{list_words, list_row}
