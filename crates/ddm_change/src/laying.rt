@@ -86,6 +86,7 @@ impl<'a> Laying<'a> {
         ensures { LaysOn (part (carried payload.now.by payload.now.run.now) from to) self.old self.new }
     {
         let mut i = from;
+        // no `for`: a piece is as long as it is cut
         while i < to {
             let most = uncut_from(self.at).min(to - i);
             let piece = payload.piece(i, most);

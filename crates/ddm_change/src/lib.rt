@@ -83,6 +83,7 @@ pub(crate) fn rewrite(
         return Err(Refused::no_room(need, 0, 0));
     }
     wire::lay_at(&data[..from], room, 0);
+    // what it needs is within what was asked for
     let _ = ddm_builder::build_param(code_point, new, &mut room[from..]);
     let behind = from + ddm_builder::serialized_header_len(new.len()) + new.len();
     wire::lay_at(&data[to..], room, behind);

@@ -44,6 +44,7 @@ pub(crate) fn search<P: Payload>(
     let end = payload.len() - first;
     let mut met = None;
     let mut at: usize = 0;
+    // no `for`: how far a parameter goes is known once it is read
     while at < end {
         let Some(param) = param_in(payload, first + at) else {
             return Err(at);
