@@ -1,4 +1,5 @@
-// Reading frames off a run: document 01, "Reading".
+// Reading frames off a run: document 01, "Reading". The run, the room and the row are lent to each call, by C and by the Rust that
+// calls these, and stay parameters of their own.
 #![tactic(auto)]
 
 ghost use Rattle.std.specs.Prelude.{◌≡◌, ◌-◌, length};
@@ -62,6 +63,7 @@ pub(crate) fn measure_all(run: &[u8], from: usize) -> Result<AllMeasured, Refuse
     let mut count = 0;
     let mut bytes = 0;
     let mut end = from;
+    // No counted loop: where the next frame starts is read from this one.
     loop {
         match dss_measure::measure_extent(Rules::Reader, run, end) {
             Ok(extent) => {
@@ -102,6 +104,7 @@ pub(crate) fn take_all(run: &[u8], from: usize, room: &mut [u8])
 {
     let mut at = from;
     let mut mark = 0;
+    // No counted loop, for the same reason.
     while let Ok(measure) = dss_take::take(Rules::Reader, run, at, &mut room[mark..]) {
         mark += measure.payload_len;
         at = measure.end;

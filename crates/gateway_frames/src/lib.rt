@@ -1,5 +1,6 @@
 // All frames at once for C and Rust: document 01, "Reading", `read_all_frames`. Slices, numbers and words go as in the crate
-// gateway, a reader as its position. The row of records is lent as words, ten a record.
+// gateway, a reader as its position. The row of records is lent as words, ten a record. A `usize` goes into a word by `as`: Rust has
+// no `From` for it.
 #![tactic(auto)]
 
 ghost use Rattle.gateway_words.specs.AnswerWords.{Answered};
