@@ -49,7 +49,6 @@ use borrow.Author.Tests.{ne_eqb}
 use Rattle.wire.proofs.WireLaws.{pick_no}
 use Rattle.demands.proofs.OwnHead.{own_head}
 use Rattle.dss_measure.specs.declared.Extent.{Extent}
-use Rattle.dss_salvage.specs.inner.SalvageMeasure.{counted}
 use Rattle.dss_reader.specs.Reader.{frames_read}
 
 -- ---- W-201, "Where each frame stood", of any run. The first `count` records of a row are those that were listed.
@@ -69,7 +68,7 @@ module _ {M : Type 1} {𝓤 : Ura M} (𝓛 : Logic 𝓤) (mem : Memory → SProp
 
   -- "In a salvage list these stretches follow each other without gap or overlap from 0 to the tail's place"
   pub salvage_stood : (row : MutBor (List SalvageEntry)) (tail : ℕ) (row_after : List SalvageEntry)
-      → ent 𝓤 ((salvage.clauses 𝓛 mem routines κs (s, (room, (row, tt)))).ensures tt (Ok (counted count bytes tail)) (s, (at_last room room_after, (at_last row row_after, tt))))
+      → ent 𝓤 ((salvage.clauses 𝓛 mem routines κs (s, (room, (row, tt)))).ensures tt (Ok (record { count = count; bytes = bytes; tail = tail })) (s, (at_last room room_after, (at_last row row_after, tt))))
       (fact 𝓤 (EntriesStood s.now room_after 0 tail (take count row_after)))
   salvage_stood row tail row_after = fact_mono 𝓤 _ _ (λ p. (lists s.now room.now row.now count bytes tail room_after row_after p).stood)
 

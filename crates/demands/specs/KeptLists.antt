@@ -15,7 +15,6 @@ use Rattle.dss_reader.specs.declared.DssReader.{DssReader}
 use Rattle.dss_reader.specs.declared.FramesRead.{FramesRead}
 use Rattle.answer.specs.declared.Refused.{Refused}
 use Rattle.dss_salvage.specs.declared.Salvaging.{Salvaging}
-use Rattle.dss_salvage.specs.inner.SalvageMeasure.{counted}
 use Rattle.dss_reader.specs.Reader.{frames_read}
 
 -- the payloads that were sent, end to end
@@ -46,6 +45,6 @@ all_bytes (i ∷ is) = due_bytes i ++ all_bytes is
 pub record Recovered (items : List (Item written)) (room : List ℕ) (row : List SalvageEntry) (r : Result Salvaging Refused) (roomAfter : List ℕ) (rowAfter : List SalvageEntry) : Type 0 where
   pub entries : List Entry
   pub due : AllDue (run items) 0 items entries
-  pub is : r ≡ Ok (counted (length items) (length (all_bytes items)) (length (run items)))
+  pub is : r ≡ Ok (record { count = length items; bytes = length (all_bytes items); tail = length (run items) })
   pub room_is : roomAfter ≡ splice room 0 (all_bytes items)
   pub row_is : rowAfter ≡ splice row 0 (salvaged_row (run items) 0 entries)

@@ -8,7 +8,6 @@ use Rattle.dss_salvage.specs.declared.SalvageEntry.{SalvageEntry}
 use Rattle.dss_salvage.specs.SalvageEntries.{salvaged_bytes, salvaged_row}
 use Rattle.answer.specs.declared.Refused.{Refused}
 use Rattle.dss_salvage.specs.declared.Salvaging.{Salvaging}
-use Rattle.dss_salvage.specs.inner.SalvageMeasure.{counted}
 
 -- whether the payloads fit the room and the records the row
 abbrev pub entries_fit : List ℕ → List reading.Entry → ℕ → ℕ → Bool
@@ -17,7 +16,7 @@ entries_fit s es size rows = both_fit (length (salvaged_bytes s es)) size (lengt
 -- "the one refusal of the call is 9"
 abbrev pub given_entries : List ℕ → ℕ → ℕ → reading.Salvaged → Result Salvaging Refused
 given_entries s size rows x =
-    pick (entries_fit s x.entries size rows) (Ok (counted (length x.entries) (length (salvaged_bytes s x.entries)) x.tail))
+    pick (entries_fit s x.entries size rows) (Ok (record { count = length x.entries; bytes = length (salvaged_bytes s x.entries); tail = x.tail }))
     (Err (no_room 0 (length (salvaged_bytes s x.entries)) (length x.entries)))
 
 pub record SalvagesRun (s room : List ℕ) (row : List SalvageEntry) (r : Result Salvaging Refused) (roomAfter : List ℕ) (rowAfter : List SalvageEntry) : Type 0 where
