@@ -1,6 +1,7 @@
 -- 16 over the contract of `next_frame`, and over the record that the exported function's contract cites: the same call over a longer
 -- run, with any room, is refused alike, and reader and room stay as they were.
 use Rattle.std.specs.Prelude.{Result, Ok, Err}
+use Rattle.dss_frame.specs.FrameRecords.{frame_record}
 use Prim.Native.Nat.{ℕ, ◌≤◌}
 use native.Mathlib.Omega.{arith}
 use mathlib.Core.Path.{◌≡◌, refl, sym, ap, subst, ◌∙◌}
@@ -34,11 +35,18 @@ module _ (s : List ℕ) (p n : ℕ) (why : Refused) (left : DssReader) (k : numb
   dead_read e = go (read_at Reader s p) refl e
     where
       go : (x : Read) → read_at Reader s p ≡ x → (Err why, left) ≡ given_frame s p n x → read_at Reader s p ≡ refused why
-      go (refused r) i j = let z : r ≡ why = cc in i ∙ ap refused z
+      go (refused r) i j =
+          let y : ◌≡◌ {A = Result DssFrame Refused} (Err why) (Err r) = ap (λ (z : Result DssFrame Refused × DssReader). z.0) j in
+          let z : r ≡ why = cc in
+          i ∙ ap refused z
       go (frame f) i j =
           picked (leb (length (payload_of s f.segments)) n) (sym j)
-          (λ t m. let z : ◌≡◌ {A = ℕ} 0 1 = cc in absurd (omega arith))
           (λ t m.
+          let y : ◌≡◌ {A = Result DssFrame Refused} (Ok (frame_record s p 0 f)) (Err why) = ap (λ (z : Result DssFrame Refused × DssReader). z.0) m in
+          let z : ◌≡◌ {A = ℕ} 0 1 = cc in
+          absurd (omega arith))
+          (λ t m.
+          let w : ◌≡◌ {A = Result DssFrame Refused} (Err (no_room p (length (payload_of s f.segments)) 0)) (Err why) = ap (λ (z : Result DssFrame Refused × DssReader). z.0) m in
           let z : no_room p (length (payload_of s f.segments)) 0 ≡ why = cc in
           let y : 9 ≡ number_of why.why = ap (λ (x : Refused). number_of x.why) z in
           absurd (omega arith))
@@ -59,8 +67,8 @@ pub dead_same : (s t : List ℕ) (p : ℕ) (room again : List ℕ) (why : Refuse
     → NextFrame s p room (Err why, left) after → NextFrame (s ++ t) p again r after' → (left ≡ stands_at p) × (r ≡ (Err why, left)) × (after' ≡ again)
 dead_same s t p room again why left r after after' k a b =
     let e = dead_longer s p (length room) why left k t a.answers in
-    let x : (Err why, left) ≡ (Err why, left_at p why) = a.answers ∙ ap (given_frame s p (length room)) (dead_read s p (length room) why left k a.answers) in
-    let l : left ≡ left_at p why = cc in
+    let x : ◌≡◌ {A = Result DssFrame Refused × DssReader} (Err why, left) (Err why, left_at p why) = a.answers ∙ ap (given_frame s p (length room)) (dead_read s p (length room) why left k a.answers) in
+    let l : left ≡ left_at p why = ap (λ (z : Result DssFrame Refused × DssReader). z.1) x in
     (l ∙ dead_still s p (length room) why left k, b.answers ∙ ap (given_frame (s ++ t) p (length again)) e ∙ sym x, b.room_is ∙ ap (room_read (s ++ t) again) e)
 
 -- over the contract itself

@@ -1,5 +1,6 @@
 -- A refusal leaves what was lent as it was: over the records that the contracts cite.
 use Rattle.std.specs.Prelude.{Result, Ok, Err}
+use Rattle.dss_measure.specs.Measure.{measured_record}
 use Prim.Native.Nat.{ℕ, ◌+◌, ◌-◌, ◌<◌}
 use native.Mathlib.Omega.{arith}
 use mathlib.Core.Path.{◌≡◌, refl, sym, ap, ◌∙◌}
@@ -77,11 +78,16 @@ reads_kept s p room y d after q =
     go (taken_of s p (length room) (read_at Reader s p)) (record { answers = refl; room_is = q.room_is })
   where
     go : (x : Result FrameMeasure Refused) → Takes Reader s p room x after → (after ≡ room) × (d ≡ left_at p y)
-    go (Ok m) w = let k = (next_is_taken s p room (Err y, d) after (Ok m) after q w).0 in let z : ◌≡◌ {A = ℕ} 0 1 = cc in absurd (omega arith)
+    go (Ok m) w =
+        let k : ◌≡◌ {A = Result DssFrame Refused} (Err y) (Ok (measured_record p 0 m)) =
+        ap (λ (x : Result DssFrame Refused × DssReader). x.0) (next_is_taken s p room (Err y, d) after (Ok m) after q w).0 in
+        let z : ◌≡◌ {A = ℕ} 0 1 = cc in
+        absurd (omega arith)
     go (Err z) w =
-        let k : (Err y, d) ≡ (Err z, left_at p z) = (next_is_taken s p room (Err y, d) after (Err z) after q w).0 in
+        let k : ◌≡◌ {A = Result DssFrame Refused × DssReader} (Err y, d) (Err z, left_at p z) = (next_is_taken s p room (Err y, d) after (Err z) after q w).0 in
+        let h : ◌≡◌ {A = Result DssFrame Refused} (Err y) (Err z) = ap (λ (x : Result DssFrame Refused × DssReader). x.0) k in
         let i : y ≡ z = cc in
-        let j : d ≡ left_at p z = cc in
+        let j : d ≡ left_at p z = ap (λ (x : Result DssFrame Refused × DssReader). x.1) k in
         (takes_kept Reader s p room z after w, j ∙ ap (left_at p) (sym i))
 
 -- ---- reading all frames
@@ -91,16 +97,21 @@ none_read : (s : List ℕ) (p size rows : ℕ) (x : AllRead) (y : Refused) (d : 
     → (P : AllRead → Type 0) → ((r : Refused) → y ≡ r → d ≡ left_at p r → P (refused_all r))
     → ((fs : List Frame) (q : ℕ) → frames_fit s fs size rows ≡ false → y.place ≡ p → d ≡ stands_at p → P (frames fs q)) → P x
 none_read s p size rows (refused_all r) y d e P f g =
+    let h : ◌≡◌ {A = Result FramesRead Refused} (Err y) (Err r) = ap (λ (x : Result FramesRead Refused × DssReader). x.0) e in
     let i : y ≡ r = cc in
-    let j : d ≡ left_at p r = cc in
+    let j : d ≡ left_at p r = ap (λ (x : Result FramesRead Refused × DssReader). x.1) e in
     f r i j
 none_read s p size rows (frames fs q) y d e P f g =
     by (frames_fit s fs size rows)
-    (λ t. let k = e ∙ pick_yes _ _ t in let z : ◌≡◌ {A = ℕ} 0 1 = cc in absurd (omega arith))
     (λ t.
-    let k : (Err y, d) ≡ (Err (no_room p (length (payloads_of s fs)) (length fs)), stands_at p) = e ∙ pick_no _ _ t in
+    let k : ◌≡◌ {A = Result FramesRead Refused} (Err y) (Ok (frames_read (length fs) (length (payloads_of s fs)))) = ap (λ (x : Result FramesRead Refused × DssReader). x.0) (e ∙ pick_yes _ _ t) in
+    let z : ◌≡◌ {A = ℕ} 0 1 = cc in
+    absurd (omega arith))
+    (λ t.
+    let k : ◌≡◌ {A = Result FramesRead Refused × DssReader} (Err y, d) (Err (no_room p (length (payloads_of s fs)) (length fs)), stands_at p) = e ∙ pick_no _ _ t in
+    let h : ◌≡◌ {A = Result FramesRead Refused} (Err y) (Err (no_room p (length (payloads_of s fs)) (length fs))) = ap (λ (x : Result FramesRead Refused × DssReader). x.0) k in
     let i : y ≡ no_room p (length (payloads_of s fs)) (length fs) = cc in
-    let j : d ≡ stands_at p = cc in
+    let j : d ≡ stands_at p = ap (λ (x : Result FramesRead Refused × DssReader). x.1) k in
     g fs q t (ap (λ (z : Refused). z.place) i) j)
 
 or_second : (a b : Bool) → or a b ≡ false → b ≡ false
@@ -164,11 +175,11 @@ module _ (words : List ℕ) (n : ℕ) (answer : List ℕ) (nz : n ≡ 0 → ⊥)
   of_taken p (Err y) a = record { y = y; is = refl; said = of_words y a }
 
   of_frames : (x : Result FramesRead Refused × DssReader) → Answered (frames_words x) words n answer → record { y : Refused; d : DssReader; is : x ≡ (Err y, d); said : RefusedInWords words n answer }
-  of_frames (Ok (frames_read c b), d) a = absurd (nz a.number_is)
+  of_frames (Ok m, d) a = absurd (nz a.number_is)
   of_frames (Err y, d) a = record { y = y; d = d; is = refl; said = of_words y a }
 
   of_salvaged : (x : Result Salvaging Refused) → Answered (salvaged_words x) words n answer → record { y : Refused; is : x ≡ Err y; said : RefusedInWords words n answer }
-  of_salvaged (Ok (counted c b t)) a = absurd (nz a.number_is)
+  of_salvaged (Ok m) a = absurd (nz a.number_is)
   of_salvaged (Err y) a = record { y = y; is = refl; said = of_words y a }
 
   pub sends_kept : (found : Result DssType Refused) (w : DssWriter) (f : DssType → Sent) (room after : List ℕ) → Sends found w f room words n after answer → RefusedInWords words n answer × (after ≡ room)

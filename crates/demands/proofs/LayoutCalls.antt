@@ -41,10 +41,10 @@ use Rattle.dss_frame.specs.declared.DssFrame.{DssFrame}
 pub done_refused : (d : DssWriter) (r : Refused) → Err r ≡ Ok d → ⊥
 done_refused d r e = let z : ◌≡◌ {A = ℕ} 0 1 = cc in omega arith
 
-pub same_done : (c d : DssWriter) → Ok c ≡ Ok d → c ≡ d
+pub same_done : (c d : DssWriter) → ◌≡◌ {A = Result DssWriter Refused} (Ok c) (Ok d) → c ≡ d
 same_done c d e = cc
 
-refuses_enough : (r : Refused) → Err r ≡ Ok tt → ⊥
+refuses_enough : (r : Refused) → ◌≡◌ {A = Result (Unit {0}) Refused} (Err r) (Ok tt) → ⊥
 refuses_enough r e = let z : ◌≡◌ {A = ℕ} 0 1 = cc in omega arith
 
 -- a call that is done had room, and moved the mark by what it laid down

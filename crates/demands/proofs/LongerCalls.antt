@@ -47,10 +47,13 @@ given_same s s' p n f e =
     e
 
 hands_refused : (d : DssFrame) (next at : DssReader) (r : Refused) → ◌≡◌ {A = Result DssFrame Refused × DssReader} (Err r, at) (Ok d, next) → ⊥
-hands_refused d next at r e = let z : ◌≡◌ {A = ℕ} 0 1 = cc in omega arith
+hands_refused d next at r e =
+    let y : ◌≡◌ {A = Result DssFrame Refused} (Err r) (Ok d) = ap (λ (x : Result DssFrame Refused × DssReader). x.0) e in
+    let z : ◌≡◌ {A = ℕ} 0 1 = cc in
+    omega arith
 
 hands_next : (d e : DssFrame) (at next : DssReader) → ◌≡◌ {A = Result DssFrame Refused × DssReader} (Ok e, at) (Ok d, next) → at ≡ next
-hands_next d e at next k = cc
+hands_next d e at next k = ap (λ (x : Result DssFrame Refused × DssReader). x.1) k
 
 -- where the reader stands behind the frame that it handed out
 stands_behind : (s : List ℕ) (p n : ℕ) (f : Frame) (d : DssFrame) (next : DssReader) → given_frame s p n (frame f) ≡ (Ok d, next) → end_of p f.segments ≡ next.position

@@ -41,7 +41,7 @@ use Rattle.dss_reader.specs.declared.DssReader.{DssReader}
 pub gives_refuses : (m : FrameMeasure) (why : Refused) → Ok m ≡ Err why → ⊥
 gives_refuses m why e = let z : ◌≡◌ {A = ℕ} 0 1 = cc in omega arith
 
-pub gives_same : (m m' : FrameMeasure) → Ok m ≡ Ok m' → m ≡ m'
+pub gives_same : (m m' : FrameMeasure) → ◌≡◌ {A = Result FrameMeasure Refused} (Ok m) (Ok m') → m ≡ m'
 gives_same m m' e = cc
 
 -- ---- measuring gives all but 9
@@ -126,7 +126,7 @@ pub takes_kept : (rules : Rules) (s : List ℕ) (p : ℕ) (room : List ℕ) (why
 takes_kept rules s p room why after w =
     measured_first (taken_as rules s p room (measured_at rules s p) (Err why) after refl w) (λ y a b k. k) (λ m a b c. absurd (gives_refuses m why (sym b))) (λ m a b k. k)
 
-refuses_same : (why why' : Refused) → Err why ≡ Err why' → why ≡ why'
+refuses_same : (why why' : Refused) → ◌≡◌ {A = Result FrameMeasure Refused} (Err why) (Err why') → why ≡ why'
 refuses_same why why' e = cc
 
 module _ {q : Result FrameMeasure Refused} {payload : List ℕ} {p : ℕ} {room room' : List ℕ} {r r' : Result FrameMeasure Refused} {after after' : List ℕ} (t : TakenAs q payload p room r after) (t' : TakenAs q payload p room' r' after') where

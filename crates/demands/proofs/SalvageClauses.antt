@@ -53,16 +53,20 @@ pub lists : (s room : List ℕ) (row : List SalvageEntry) (count bytes tail : �
 lists s room row count bytes tail roomAfter rowAfter p =
     let es : List Entry = (salvaged s).entries in
     picked (entries_fit s es (length room) (length row)) (sym p.answers)
-    (λ fit e. record {
+    (λ fit e.
+    let x : counted (length es) (length (salvaged_bytes s es)) (salvaged s).tail ≡ counted count bytes tail = cc in
+    let counts : length es ≡ count = ap (λ (m : Salvaging). m.count) x in
+    let ends : (salvaged s).tail ≡ tail = ap (λ (m : Salvaging). m.tail) x in
+    record {
       entries = es;
-      counted = cc;
-      filled = cc;
+      counted = counts;
+      filled = ap (λ (m : Salvaging). m.bytes) x;
       room_is = p.room_is ∙ pick_yes _ _ fit;
       row_is = p.row_is ∙ pick_yes _ _ fit;
-      covered = subst (λ (t : ℕ). Covered s 0 (record { entries = es; tail = t })) (cc) (covers s);
+      covered = subst (λ (t : ℕ). Covered s 0 (record { entries = es; tail = t })) ends (covers s);
       stood =
-          subst (λ (t : ℕ). EntriesStood s roomAfter 0 t (take count rowAfter)) (cc)
-          (entries_listed s room row roomAfter rowAfter count (cc) (p.room_is ∙ pick_yes _ _ fit) (p.row_is ∙ pick_yes _ _ fit));
+          subst (λ (t : ℕ). EntriesStood s roomAfter 0 t (take count rowAfter)) ends
+          (entries_listed s room row roomAfter rowAfter count counts (p.room_is ∙ pick_yes _ _ fit) (p.row_is ∙ pick_yes _ _ fit));
     })
     (λ fit e. absurd (let z : ◌≡◌ {A = ℕ} 0 1 = cc in omega arith))
 

@@ -1,5 +1,6 @@
 -- W-201 over the records that the contracts of the calls cite: whatever answer, room and row they allow on any run.
-use Rattle.std.specs.Prelude.{Result, Ok}
+use Rattle.std.specs.Prelude.{Result, Ok, Err}
+use Rattle.answer.specs.Rooms.{no_room}
 use Prim.Native.Nat.{ℕ, ◌+◌, ◌≤◌, ◌<◌}
 use native.Mathlib.Omega.{arith}
 use mathlib.Core.Path.{◌≡◌, refl, sym, ap, ap₂, subst, ◌∙◌}
@@ -57,12 +58,16 @@ module _ (s : List ℕ) (p : ℕ) (room : List ℕ) where
   next_stood d next after w = of_read (read_at Reader s p) refl w.answers w.room_is
     where
       of_read : (r : Read) → read_at Reader s p ≡ r → (Ok d, next) ≡ given_frame s p (length room) r → after ≡ room_read s room r → FramesStood s after p next.position (d ∷ [])
-      of_read (refused r) i e k = let z : ◌≡◌ {A = ℕ} 0 1 = cc in absurd (omega arith)
+      of_read (refused r) i e k =
+          let y : ◌≡◌ {A = Result DssFrame Refused} (Ok d) (Err r) = ap (λ (x : Result DssFrame Refused × DssReader). x.0) e in
+          let z : ◌≡◌ {A = ℕ} 0 1 = cc in
+          absurd (omega arith)
       of_read (frame f) i e k =
           picked (leb (length (payload_of s f.segments)) (length room)) (sym e)
           (λ t z. let x : Whole s p f = whole_read s p f i in
+          let y : ◌≡◌ {A = Result DssFrame Refused} (Ok (frame_record s p 0 f)) (Ok d) = ap (λ (u : Result DssFrame Refused × DssReader). u.0) z in
           let same : frame_record s p 0 f ≡ d = cc in
-          let there : stands_at (end_of p f.segments) ≡ next = cc in
+          let there : stands_at (end_of p f.segments) ≡ next = ap (λ (u : Result DssFrame Refused × DssReader). u.1) z in
           let b : List ℕ = payload_of s f.segments in
           let fits : length b ≤ length room = leb-true _ _ t in
           let laid-down : drop 0 after ≡ b ++ drop (0 + length b) room = k ∙ laid_fits room 0 b (omega arith) ∙ splice_tail room 0 b (omega arith) in
@@ -71,7 +76,10 @@ module _ (s : List ℕ) (p : ℕ) (room : List ℕ) where
           record { follow = (refl, x.on, refl); inside = x.there; payloads = (inside, tt) } in
           subst (λ (y : DssReader). FramesStood s after p y.position (d ∷ [])) there
           (subst (λ (y : DssFrame). FramesStood s after p (end_of p f.segments) (y ∷ [])) same whole))
-          (λ t z. let y : ◌≡◌ {A = ℕ} 0 1 = cc in absurd (omega arith))
+          (λ t z.
+          let u : ◌≡◌ {A = Result DssFrame Refused} (Err (no_room p (length (payload_of s f.segments)) 0)) (Ok d) = ap (λ (x : Result DssFrame Refused × DssReader). x.0) z in
+          let y : ◌≡◌ {A = ℕ} 0 1 = cc in
+          absurd (omega arith))
 
   pub answer_stood : (words after answer : List ℕ) → 8 ≤ length words → ReadsFrame s p room words 0 after answer → AnswerStood s p after answer
   answer_stood words after answer h w = of_read (read_at Reader s p) refl w.answers w.room_is
@@ -108,17 +116,27 @@ module _ (s : List ℕ) (p : ℕ) (room : List ℕ) where
     where
       of_all : (a : AllRead) → all_frames s p ≡ a → (Ok (frames_read count bytes), reader) ≡ given_frames s p (length room) (length row) a → roomAfter ≡ room_all s room (length row) a → rowAfter ≡ row_all s p (length room) row a
           → FramesStood s roomAfter p reader.position (take count rowAfter)
-      of_all (refused_all r) i e k l = let z : ◌≡◌ {A = ℕ} 0 1 = cc in absurd (omega arith)
+      of_all (refused_all r) i e k l =
+          let y : ◌≡◌ {A = Result FramesRead Refused} (Ok (frames_read count bytes)) (Err r) = ap (λ (x : Result FramesRead Refused × DssReader). x.0) e in
+          let z : ◌≡◌ {A = ℕ} 0 1 = cc in
+          absurd (omega arith)
       of_all (frames fs q) i e k l =
           picked (frames_fit s fs (length room) (length row)) (sym e)
-          (λ t z. let c : length fs ≡ count = cc in
-          let there : stands_at q ≡ reader = cc in
+          (λ t z.
+          let y : ◌≡◌ {A = Result FramesRead Refused} (Ok (frames_read (length fs) (length (payloads_of s fs)))) (Ok (frames_read count bytes)) = ap (λ (x : Result FramesRead Refused × DssReader). x.0) z in
+          let m : frames_read (length fs) (length (payloads_of s fs)) ≡ frames_read count bytes = cc in
+          let c : length fs ≡ count = ap (λ (x : FramesRead). x.count) m in
+          let there : stands_at q ≡ reader = ap (λ (x : Result FramesRead Refused × DssReader). x.1) z in
           let rs : List DssFrame = frame_records s p 0 fs in
           let listed : rs ≡ take count rowAfter = sym (ap (take count) (l ∙ pick_yes _ _ t) ∙ row_first row rs count (records_long s p 0 fs ∙ c)) in
           subst (λ (y : DssReader). FramesStood s roomAfter p y.position (take count rowAfter)) there
           (subst (FramesStood s roomAfter p q) listed
           (frames_stood fs s roomAfter _ p 0 q i (k ∙ pick_yes _ _ t ∙ splice_tail room 0 (payloads_of s fs) (omega arith)))))
-          (λ t z. let y : ◌≡◌ {A = ℕ} 0 1 = cc in absurd (omega arith))
+          (λ t z.
+          let y : ◌≡◌ {A = Result FramesRead Refused} (Err (no_room p (length (payloads_of s fs)) (length fs))) (Ok (frames_read count bytes)) =
+          ap (λ (x : Result FramesRead Refused × DssReader). x.0) z in
+          let u : ◌≡◌ {A = ℕ} 0 1 = cc in
+          absurd (omega arith))
 
   pub all_words_stood : (row words room_after row_after answer : List ℕ) → 8 ≤ length words → ReadsAllFrames s p room row words 0 room_after row_after answer
       → WordsStood s room_after p (get_or answer 1 0) (cut record_len (get_or answer 2 0) row_after)
