@@ -47,7 +47,6 @@ use Rattle.demands.proofs.MeasureTake.{takes_kept, next_is_taken}
 use Rattle.dss_measure.specs.declared.FrameMeasure.{FrameMeasure}
 use Rattle.dss_reader.specs.declared.FramesRead.{FramesRead}
 use Rattle.dss_salvage.specs.declared.Salvaging.{Salvaging}
-use Rattle.dss_salvage.specs.inner.SalvageMeasure.{counted}
 use Rattle.dss_reader.specs.Reader.{frames_read}
 
 -- ---- writing
