@@ -2,14 +2,43 @@
 ghost use Rattle.std.specs.Prelude.{◌≤◌, length};
 
 use super::calls::made;
-use replay_list::asked::{Asked, asked_at};
-use replay_list::input::{fill_bytes, fill_input, fill_words};
+use replay_list::asked::asked_at;
+use replay_list::input::fill_input;
 use replay_list::number::{at_most, number_at};
+use replay_list::sum;
 
 // What fills lent buffers before a call.
 const BYTE: u8 = 0xA5;
 
 const WORD: u64 = 90;
+
+// Inputs, rooms and rows are shorter than these.
+const BYTES: usize = 147456;
+
+const ROW: usize = 512;
+
+// So many words are looked at.
+const WORDS: usize = 12;
+
+// What each call has for its input, and is lent to write.
+#[derive(Drop)]
+pub(crate) struct Buffers {
+    pub(crate) run: [u8; BYTES],
+    pub(crate) room: [u8; BYTES],
+    pub(crate) row: [u64; ROW],
+    pub(crate) words: [u64; WORDS],
+}
+
+impl Buffers {
+    pub(crate) fn new() -> Buffers {
+        Buffers {
+            run: [0; BYTES],
+            room: [0; BYTES],
+            row: [0; ROW],
+            words: [0; WORDS],
+        }
+    }
+}
 
 // Whether an answer is the recorded one, and the place in the list behind it.
 #[derive(Drop)]
@@ -23,13 +52,11 @@ fn same_words(list: &[u8], at: usize, words: &[u64]) -> Held
     ensures { result.next ≤ length list.now }
 {
     let mut same = true;
-    let mut next = at_most(at as u64, list.len());
-    let mut i = 0;
-    while i < words.len() {
-        let word = number_at(list, next);
-        same = same && word.value == words[i];
-        next = word.next;
-        i += 1;
+    let mut next = at.min(list.len());
+    for &word in words {
+        let recorded = number_at(list, next);
+        same = same && recorded.value == word;
+        next = recorded.next;
     }
     Held { same, next }
 }
@@ -51,76 +78,43 @@ fn same_answer(
     let row_sum = number_at(list, room_sum.next);
     let same = rest.same
         && first.value == returned
-        && room_sum.value == replay_list::sum::of_bytes(room)
-        && row_sum.value == replay_list::sum::of_words(row);
+        && room_sum.value == sum::of(room)
+        && row_sum.value == sum::of(row);
     Held {
         same,
         next: row_sum.next,
     }
 }
 
-// Makes the call, with as many words lent as it asks.
-fn called(asked: Asked, run: &[u8], room: &mut [u8], row: &mut [u64], words: &mut [u64]) -> u64 {
-    let n = at_most(asked.words, words.len());
-    made(asked, run, room, row, &mut words[0..n])
-}
-
-// A call in a room and a row of just the lengths that it asks.
-fn answered(
-    list: &[u8],
-    at: usize,
-    asked: Asked,
-    run: &[u8],
-    room: &mut [u8],
-    row: &mut [u64],
-    words: &mut [u64],
-) -> Held
+// A call with its input, in a room, a row and words of just the lengths that it asks, at the front of longer buffers.
+pub(crate) fn replayed(list: &[u8], at: usize, buffers: &mut Buffers) -> Held
     ensures { result.next ≤ length list.now }
 {
-    fill_bytes(room, BYTE);
-    fill_words(row, WORD);
-    fill_words(words, WORD);
-    let returned = called(asked, run, room, row, words);
-    same_answer(list, at, returned, words, room, row)
-}
-
-// A call with its input, in longer buffers.
-fn lent(
-    list: &[u8],
-    at: usize,
-    asked: Asked,
-    run: &[u8],
-    room: &mut [u8],
-    row: &mut [u64],
-    words: &mut [u64],
-) -> Held
-    ensures { result.next ≤ length list.now }
-{
-    let room_len = at_most(asked.room, room.len());
-    let row_len = at_most(asked.row, row.len());
-    answered(
-        list,
-        at,
-        asked,
-        run,
-        &mut room[0..room_len],
-        &mut row[0..row_len],
-        words,
-    )
-}
-
-pub(crate) fn replayed(
-    list: &[u8],
-    at: usize,
-    run: &mut [u8],
-    room: &mut [u8],
-    row: &mut [u64],
-    words: &mut [u64],
-) -> Held
-    ensures { result.next ≤ length list.now }
-{
+    let run = &mut buffers.run[..];
+    let room = &mut buffers.room[..];
+    let row = &mut buffers.row[..];
+    let words = &mut buffers.words[..];
     let asked = asked_at(list, at);
     let input = fill_input(list, asked.next, run);
-    let n = input.len;
-    lent(list, input.next, asked, &run[0..n], room, row, words)
+    let room_len = at_most(asked.room, room.len());
+    let row_len = at_most(asked.row, row.len());
+    let words_len = at_most(asked.words, words.len());
+    room[..room_len].fill(BYTE);
+    row[..row_len].fill(WORD);
+    words.fill(WORD);
+    let returned = made(
+        &asked,
+        &run[..input.len],
+        &mut room[..room_len],
+        &mut row[..row_len],
+        &mut words[..words_len],
+    );
+    same_answer(
+        list,
+        input.next,
+        returned,
+        words,
+        &room[..room_len],
+        &row[..row_len],
+    )
 }

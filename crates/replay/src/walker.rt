@@ -3,10 +3,11 @@ ghost use Rattle.std.specs.Prelude.{◌≡◌};
 ghost use Rattle.ddm_object.specs.ObjectCalls.{param_step_at};
 ghost use Rattle.wire.specs.Parts.{RestAt};
 
-use ddm_object::Stepped;
+use answer::Refused;
+use ddm_object::DdmObject;
 use ddm_rows::Walker;
 
-pub(crate) fn step_from(data: &[u8], at: usize) -> Stepped
+pub(crate) fn step_from(data: &[u8], at: usize) -> Result<(DdmObject, usize), Refused>
     ensures { result ≡ param_step_at «data».now at }
 {
     Walker::new(data).moved(at).step()

@@ -1,9 +1,6 @@
--- `replay::turn::same_words` is safe and ends, and stays within the list.
-use Rattle.std.proofs.Common.{◌-◌, ◌≤◌, length}
+-- `replay::turn::same_words` stays within the list.
+use Rattle.std.proofs.Common.{◌≤◌, length}
 use Rattle.replay.proofs.turn.same_words.Given as goal
 
-abbrev pub invariant-loop-i : goal.invariant-loop-i
-invariant-loop-i l = (l.i ≤ length l.words) × (l.next ≤ length l.list)
-
-abbrev pub decreases-loop-i : goal.decreases-loop-i
-decreases-loop-i l = length l.words - l.i
+abbrev pub invariant-loop-word : goal.invariant-loop-word
+invariant-loop-word l = l.next ≤ length l.list
