@@ -121,7 +121,7 @@ pub fn change_request(
 ) -> Result<usize, Refused>
     ensures { ChangesRequest frame.now code_point new.now room.old result room.new }
 {
-    let plan = request::plan(frame, code_point, new.len())?;
+    let plan = request::plan(frame, code_point, new)?;
     let need = dss_writer::frame_size(plan.payload_len);
     if room.len() < need {
         return Err(Refused::no_room(need, 0, 0));

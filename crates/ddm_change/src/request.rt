@@ -44,15 +44,14 @@ pub(crate) fn plan_found<'a>(
     first: usize,
     spot: Spot,
     code_point: u16,
-    new_len: usize,
+    new: &[u8],
 ) -> Result<Plan<'a>, Refused>
-    requires found { FoundParam payload.run.now payload.by first (first + spot.from) (first + spot.to) code_point }
-    requires small { new_len < 2 ^ 63 }
-    ensures { Plans payload.entry.run.now code_point new_len result }
+    requires { FoundParam payload.run.now payload.by first (first + spot.from) (first + spot.to) code_point }
+    ensures { Plans payload.entry.run.now code_point (length new.now) result }
 {
     let from = first + spot.from;
     let to = first + spot.to;
-    let data_len = changed_len(spot.from + (payload.len() - to), new_len);
+    let data_len = changed_len(spot.from + (payload.len() - to), new.len());
     let payload_len = ddm_builder::built_size(data_len);
     if is_unreadable(payload_len) {
         return Err(Refusal::UnreadableSize.at(0));
@@ -73,14 +72,13 @@ pub(crate) fn plan_change<'a>(
     payload: Carried<'a>,
     first: usize,
     code_point: u16,
-    new_len: usize,
+    new: &[u8],
 ) -> Result<Plan<'a>, Refused>
-    requires one { OneObject payload.run.now payload.by first }
-    requires small { new_len < 2 ^ 63 }
-    ensures { Plans payload.entry.run.now code_point new_len result }
+    requires { OneObject payload.run.now payload.by first }
+    ensures { Plans payload.entry.run.now code_point (length new.now) result }
 {
     match search::search(&payload, first, code_point) {
-        Ok(Some(spot)) => plan_found(payload, first, spot, code_point, new_len),
+        Ok(Some(spot)) => plan_found(payload, first, spot, code_point, new),
         Ok(None) => Err(Refusal::NotFound.at(0)),
         Err(at) => Err(Refusal::UnsoundData.at(payload.place_of(first + at))),
     }
@@ -91,11 +89,10 @@ pub(crate) fn plan_object<'a>(
     frame: &'a [u8],
     alone: Alone,
     code_point: u16,
-    new_len: usize,
+    new: &[u8],
 ) -> Result<Plan<'a>, Refused>
-    requires one { Standing frame.now alone.end alone.segments }
-    requires small { new_len < 2 ^ 63 }
-    ensures { Plans frame.now code_point new_len result }
+    requires { Standing frame.now alone.end alone.segments }
+    ensures { Plans frame.now code_point (length new.now) result }
 {
     let Alone { end, segments } = alone;
     let by = Carriage {
@@ -118,7 +115,7 @@ pub(crate) fn plan_object<'a>(
             if ddm_length::u16_in(&payload, 0) == 0x8004 {
                 return Err(Refusal::UnsoundData.at(DSS_HEADER_LEN));
             }
-            plan_change(payload, header, code_point, new_len)
+            plan_change(payload, header, code_point, new)
         }
         Err(_) if behind => Err(Refusal::UnsoundData.at(end)),
         Err(refused) => Err(refused),
@@ -126,16 +123,11 @@ pub(crate) fn plan_object<'a>(
 }
 
 // All that is known of a request before room is tested.
-pub(crate) fn plan<'a>(
-    frame: &'a [u8],
-    code_point: u16,
-    new_len: usize,
-) -> Result<Plan<'a>, Refused>
-    requires { new_len < 2 ^ 63 }
-    ensures { Plans frame.now code_point new_len result }
+pub(crate) fn plan<'a>(frame: &'a [u8], code_point: u16, new: &[u8]) -> Result<Plan<'a>, Refused>
+    ensures { Plans frame.now code_point (length new.now) result }
 {
     let alone = alone(frame)?;
-    plan_object(frame, alone, code_point, new_len)
+    plan_object(frame, alone, code_point, new)
 }
 
 // The frame after, at the room's start: its head, whose length alone is new; the object's header; its data up to the parameter, the

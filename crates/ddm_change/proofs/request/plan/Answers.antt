@@ -10,5 +10,5 @@ returns-in_err-alone c =
     let p = err_from_is_err_and c.from_residual.result c.from_residual.ensures.1 in
     rw (p.1, p.2) (λ new e. request_refused a.frame.now _ (sym c.in_err-alone.ensures) a.code_point new)
 
-pub plan_object-requires-clause-one : goal.plan_object-requires-clause-one
-plan_object-requires-clause-one c = standing c.args.frame.now _ (sym c.in_ok-alone.ensures)
+pub plan_object-requires : goal.plan_object-requires
+plan_object-requires c = standing c.args.frame.now _ (sym c.in_ok-alone.ensures)

@@ -13,13 +13,13 @@ use Rattle.ddm_change.proofs.request.plan_found.Goals as goal
 pub overflow_add-from : goal.overflow_add-from
 overflow_add-from c =
     let p = c.args.payload in
-    let f = c.requires.found in
+    let f = c.requires in
     omega (arith, f.ordered, f.inside, carried_length p.by p.run.now p.sound)
 
 pub overflow_add-to : goal.overflow_add-to
 overflow_add-to c =
     let p = c.args.payload in
-    let f = c.requires.found in
+    let f = c.requires in
     omega (arith, f.inside, carried_length p.by p.run.now p.sound)
 
 pub returns-then-is_unreadable : goal.returns-then-is_unreadable
@@ -27,10 +27,10 @@ returns-then-is_unreadable c =
     let a = c.args in
     let p = a.payload in
     let v = carried p.by p.run.now in
-    let z : a.spot.from + (c.len.result - (a.first + a.spot.to)) + built_size a.new_len
-    ≡ (a.first + a.spot.from) - a.first + (length v - (a.first + a.spot.to)) + built_size a.new_len = omega (arith, c.len.ensures) in
+    let z : a.spot.from + (c.len.result - (a.first + a.spot.to)) + built_size (length a.new.now)
+    ≡ (a.first + a.spot.from) - a.first + (length v - (a.first + a.spot.to)) + built_size (length a.new.now) = omega (arith, c.len.ensures) in
     rw c.at.ensures
-    (found_unreadable p.run.now p.by p.sound a.first (a.first + a.spot.from) (a.first + a.spot.to) a.code_point c.requires.found a.new_len c.requires.small (omega arith)
+    (found_unreadable p.run.now p.by p.sound a.first (a.first + a.spot.from) (a.first + a.spot.to) a.code_point c.requires (length a.new.now) (omega arith) (omega arith)
     _ _ (c.changed_len-data_len.ensures ∙ ap capped z) c.built_size-payload_len.ensures (sym c.is_unreadable.ensures ∙ c.if-is_unreadable.true))
 
 pub returns : goal.returns
@@ -38,9 +38,9 @@ returns c =
     let a = c.args in
     let p = a.payload in
     let v = carried p.by p.run.now in
-    let f = c.requires.found in
-    let z : a.spot.from + (c.len.result - (a.first + a.spot.to)) + built_size a.new_len
-    ≡ (a.first + a.spot.from) - a.first + (length v - (a.first + a.spot.to)) + built_size a.new_len = omega (arith, c.len.ensures) in
+    let f = c.requires in
+    let z : a.spot.from + (c.len.result - (a.first + a.spot.to)) + built_size (length a.new.now)
+    ≡ (a.first + a.spot.from) - a.first + (length v - (a.first + a.spot.to)) + built_size (length a.new.now) = omega (arith, c.len.ensures) in
     let size = c.changed_len-data_len.ensures ∙ ap capped z in
     record {
       frame_is = refl;
@@ -50,6 +50,6 @@ returns c =
       inside = f.inside;
       data_size_is = size;
       size = c.built_size-payload_len.ensures ∙ ap (λ (x : ℕ). capped (built_size x)) size ∙ capped_built _;
-      comes = found_laying p.run.now p.by p.sound a.first (a.first + a.spot.from) (a.first + a.spot.to) a.code_point f a.new_len c.requires.small (omega arith)
+      comes = found_laying p.run.now p.by p.sound a.first (a.first + a.spot.from) (a.first + a.spot.to) a.code_point f (length a.new.now) (omega arith) (omega arith)
           _ _ size c.built_size-payload_len.ensures c.u16_in.result c.u16_in.ensures (sym c.is_unreadable.ensures ∙ c.if-is_unreadable.false);
     }
