@@ -81,6 +81,7 @@ pub fn measure_salvage(run: &[u8]) -> Salvaging
         bytes: 0,
         tail: 0,
     };
+    // No counted loop: where the next entry starts is read from this one.
     loop {
         match step_at(run, all.tail) {
             Step::Frame(measure) => {

@@ -17,6 +17,7 @@ pub(crate) fn lay_payloads(run: &[u8], room: &mut [u8])
 {
     let mut at = 0;
     let mut filled = 0;
+    // No counted loop: where the next entry starts is read from this one.
     loop {
         match dss_take::take(Rules::Salvage, run, at, &mut room[filled..]) {
             Ok(measure) => {
@@ -52,10 +53,7 @@ pub fn gather_entries(run: &[u8], room: &mut [u8], rows: usize) -> Result<Salvag
 pub fn entries_in(salvaged: Result<Salvaging, Refused>) -> usize
     ensures { result ≡ entries_in salvaged }
 {
-    match salvaged {
-        Ok(all) => all.count,
-        Err(_) => 0,
-    }
+    salvaged.map_or(0, |all| all.count)
 }
 
 // All that can be read of a run: the payloads of its frames end to end in the room, one record for each entry in the row.

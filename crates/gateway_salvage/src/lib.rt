@@ -1,5 +1,5 @@
 // The salvage reading for C and Rust: document 01, "Salvage reading". Slices, numbers and words go as in the crate gateway_head. The
-// row of entries is lent as words, ten a record.
+// row of entries is lent as words, ten a record. A `usize` goes into a word by `as`: Rust has no `From` for it.
 #![tactic(auto)]
 
 ghost use Rattle.std.specs.Prelude.{◌≡◌, ◌*◌, ◌≤◌, length};
@@ -22,7 +22,7 @@ pub(crate) fn lay_entries(run: &[u8], count: usize, row: &mut [u64])
 {
     let mut at = 0;
     let mut payload_at = 0;
-    // by place: a proof doesn't see what is written through chunks_exact_mut
+    // By place: a proof doesn't see what is written through chunks_exact_mut.
     for i in 0..count {
         let filled = RECORD_WORDS * i;
         let next = filled + RECORD_WORDS;

@@ -20,6 +20,7 @@ pub(crate) fn put_frames(run: &[u8], text: &mut Text)
     ensures { PutsText (frames_text run.now) text.old text.new }
 {
     let mut position = 0;
+    // No counted loop: where the next frame starts is read from this one.
     loop {
         match dss_measure::measure(Rules::Reader, run, position) {
             Ok(measure) => {
@@ -41,6 +42,7 @@ pub(crate) fn put_salvage(run: &[u8], text: &mut Text)
     ensures { PutsText (salvage_text run.now) text.old text.new }
 {
     let mut position = 0;
+    // No counted loop: where the next entry starts is read from this one.
     loop {
         match dss_salvage::step_at(run, position) {
             Step::Frame(measure) => {
@@ -70,7 +72,7 @@ pub(crate) fn put_list(rules: Rules, run: &[u8], text: &mut Text)
     if MOST < run.len() {
         return text.put_text(b"input too long\n");
     }
-    // two kinds: a closure for each would be this match again
+    // Two kinds: a closure for each would be this match again.
     match rules {
         Rules::Reader => put_frames(run, text),
         Rules::Salvage => put_salvage(run, text),

@@ -14,7 +14,7 @@ pub struct Text<'a> {
     ghost fits: { at < 2 ^ 64 },
 }
 
-// The last digit of a number.
+// The last digit of a number. It is narrowed by `as`: TryFrom would answer an error that there can't be.
 pub(crate) fn last_digit(n: usize) -> u8
     ensures { result ≡ 48 + n % 10 }
 {
