@@ -24,8 +24,12 @@ use Rattle.ddm_object.specs.declared.DdmObject.{DdmObject}
 use Rattle.ddm_rows.specs.ListCalls.{works_of, measured_objects}
 use Rattle.ddm_rows.specs.declared.Extent.{Extent}
 use Rattle.ddm_rows.specs.inner.WalkedList.{and_all, work_len, WalkedParams}
-use Rattle.ddm_rows.specs.ListCalls.{objects_found}
 use Rattle.ddm_length.specs.Lengths.{takes}
+use Rattle.ddm_rows.specs.declared.ObjectsFound.{ObjectsFound}
+
+-- so many objects, and so much of the work area
+abbrev pub objects_found : ℕ → ℕ → ObjectsFound
+objects_found count work = record { count = count; work = work }
 
 -- the place behind objects one behind the other
 unfoldable pub end_of_objects : ℕ → List Object → ℕ

@@ -24,7 +24,7 @@ use Rattle.ddm_rows.proofs.ObjectLists.{objects_parameters}
 use Rattle.ddm_rows.specs.ObjectRows.{TakesWork}
 use Rattle.ddm_rows.specs.inner.RowsFilled.{one_more_object, recs_from, RowFilled}
 use Rattle.ddm_rows.specs.declared.ObjectsFound.{ObjectsFound}
-use Rattle.ddm_rows.specs.ListCalls.{objects_found}
+use Rattle.ddm_rows.proofs.ObjectLists.{objects_found}
 
 -- ---- the work area
 

@@ -20,12 +20,8 @@ object_records s place (o ∷ os) = object_record s place o ∷ object_records s
 abbrev pub objects_fit : List ℕ → List Object → ℕ → ℕ → Bool
 objects_fit s os size rows = both_fit (length (works_of s 0 os)) size (length os) rows
 
-abbrev pub objects_found : ℕ → ℕ → ObjectsFound
-objects_found count work = record { count = count; work = work }
-
 abbrev pub given_objects : List ℕ → ℕ → ℕ → List Object → Result ObjectsFound Refused
-given_objects s size rows os =
-    pick (objects_fit s os size rows) (Ok (objects_found (length os) (length (works_of s 0 os)))) (Err (no_room 0 (length (works_of s 0 os)) (length os)))
+given_objects s size rows os = pick (objects_fit s os size rows) (Ok (record { count = length os; work = length (works_of s 0 os) })) (Err (no_room 0 (length (works_of s 0 os)) (length os)))
 
 -- "`parse_ddm_objects` ... refuses whole on any refusal"; "anything unfit ... ends the list silently" for parameters
 abbrev pub given_list : List ℕ → ℕ → ℕ → AllParsed → Result ObjectsFound Refused
@@ -50,5 +46,5 @@ ListsParameters s = Lists s (parameters s) (λ size rows. given_objects s size r
 
 -- what is measured of all objects
 abbrev pub measured_objects : List ℕ → AllParsed → Result ObjectsFound Refused
-measured_objects s (objects os) = Ok (objects_found (length os) (length (works_of s 0 os)))
+measured_objects s (objects os) = Ok (record { count = length os; work = length (works_of s 0 os) })
 measured_objects s (refused_all r) = Err r

@@ -18,7 +18,7 @@ use Rattle.ddm_rows.specs.ListCalls.{object_records, works_of, given_objects, gi
 use Rattle.demands_ddm.specs.ReadingBack.{LaidFirst, plain, records_built, Lacks}
 use Rattle.demands_ddm.proofs.LayoutRead.{six_read, eight_read}
 use Rattle.demands_ddm.proofs.Building.{lays_first, read_layout}
-use Rattle.ddm_rows.specs.ListCalls.{objects_found}
+use Rattle.ddm_rows.proofs.ObjectLists.{objects_found}
 
 -- ---- one object
 

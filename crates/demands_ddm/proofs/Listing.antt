@@ -21,7 +21,7 @@ use Rattle.demands_ddm.specs.ReadingBack.{records_built, AllSay, ListsAs}
 use Rattle.demands_ddm.proofs.LayoutRead.{built_no_work, built_record}
 use Rattle.ddm_rows.specs.declared.ObjectsFound.{ObjectsFound}
 use Rattle.answer.specs.declared.Refused.{Refused}
-use Rattle.ddm_rows.specs.ListCalls.{objects_found}
+use Rattle.ddm_rows.proofs.ObjectLists.{objects_found}
 
 count : (l : List (ℕ × List ℕ)) → length (objects_of l) ≡ length l
 count [] = refl

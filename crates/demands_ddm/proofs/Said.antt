@@ -27,7 +27,7 @@ use Rattle.demands_ddm.specs.ReadingWords.{SaysInWords, AnswersNumber, AnswersOb
 use Rattle.demands_ddm.proofs.Listing.{rest_of, fit_listed, given_listed}
 use Rattle.ddm_rows.specs.declared.ObjectsFound.{ObjectsFound}
 use Rattle.answer.specs.declared.Refused.{Refused}
-use Rattle.ddm_rows.specs.ListCalls.{objects_found}
+use Rattle.ddm_rows.proofs.ObjectLists.{objects_found}
 
 -- the words, where there are eight: the answer's, and behind them what was there
 pub after_is : (answer words : List ℕ) (r : ℕ) (after : List ℕ) → length answer ≡ 8 → 8 ≤ length words → Answered answer words r after → after ≡ answer ++ drop 8 words

@@ -8,7 +8,6 @@ use Rattle.ddm_builder.specs.declared.DdmBuilder.{DdmBuilder}
 use Rattle.ddm_object.specs.declared.DdmObject.{DdmObject}
 use Rattle.ddm_rows.specs.declared.ObjectsFound.{ObjectsFound}
 use Rattle.answer.specs.declared.Refused.{Refused}
-use Rattle.ddm_rows.specs.ListCalls.{objects_found}
 
 -- ---- what is laid down
 
@@ -65,7 +64,7 @@ AllSay s (x ∷ l) (o ∷ os) = (o.code_point ≡ x.0) × (data_of s o ≡ x.1) 
 
 -- A call answers all of them: 0, how many, no byte of the work area; the records at the row's start, and all else as it was.
 pub record ListsAs (l : List (ℕ × List ℕ)) (s work : List ℕ) (row : List DdmObject) (r : Result ObjectsFound Refused) (workAfter : List ℕ) (rowAfter : List DdmObject) : Type 0 where
-  pub is : r ≡ Ok (objects_found (length l) 0)
+  pub is : r ≡ Ok (record { count = length l; work = 0 })
   pub row_is : rowAfter ≡ splice row 0 (records_built 0 l)
   pub say : AllSay s l (records_built 0 l)
   pub work_is : workAfter ≡ work

@@ -26,7 +26,7 @@ use Rattle.gateway_object.specs.ObjectWords.{object_words}
 use Rattle.gateway_object_rows.specs.ListWords.{object_len, list_row, records, ListsWords}
 use Rattle.gateway_object_rows.specs.inner.Listed.{ListedWords}
 use Rattle.ddm_rows.specs.declared.ObjectsFound.{ObjectsFound}
-use Rattle.ddm_rows.specs.ListCalls.{objects_found}
+use Rattle.ddm_rows.proofs.ObjectLists.{objects_found}
 
 -- ---- the words of records
 
