@@ -23,7 +23,7 @@ const NAMED: u64 = 10;
 // More than the list has.
 const LIST: usize = 655360;
 
-// How many answers there are, how many differ, and whether the list ends behind them.
+// How many answers there are, how many differ, and whether the list ends behind them; the counts are told either way.
 #[derive(Drop)]
 struct Tally {
     answers: u64,

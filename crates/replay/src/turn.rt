@@ -40,7 +40,7 @@ impl Buffers {
     }
 }
 
-// Whether an answer is the recorded one, and the place in the list behind it.
+// Whether an answer is the recorded one, and the place in the list behind it, which is told either way.
 #[derive(Drop)]
 pub(crate) struct Held {
     pub(crate) same: bool,

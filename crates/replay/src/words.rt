@@ -1,4 +1,4 @@
-// What a call comes to, in words.
+// What a call comes to, in words. Here and in what calls these a `usize` goes into a word by `as`: Rust has no `From` for it.
 ghost use Rattle.std.specs.Prelude.{◌<◌};
 
 use answer::Refused;

@@ -51,7 +51,7 @@ fn of_bytes(bytes: &[u8]) -> u64 {
         .fold(0, |value, &b| (value << 8) | u64::from(b))
 }
 
-// A number, or what there is where that is less.
+// A number, or what there is where that is less. By `as`: Rust has no `From` between the two types.
 pub fn at_most(x: u64, most: usize) -> usize
     ensures upper_bound { result ≤ most }
     ensures upper_bound_2 { result ≤ x }
