@@ -149,10 +149,7 @@ pub fn gather_frames(
 pub fn records_in(read: (Result<FramesRead, Refused>, DssReader)) -> usize
     ensures { result ≡ records_in read }
 {
-    match read.0 {
-        Ok(found) => found.count,
-        Err(_) => 0,
-    }
+    read.0.map_or(0, |found| found.count)
 }
 
 impl DssReader {

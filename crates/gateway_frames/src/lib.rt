@@ -26,6 +26,7 @@ pub(crate) fn take_frames(run: &[u8], from: usize, count: usize, room: &mut [u8]
             return;
         };
         let record = measure.record(at, payload_at);
+        // A part by its place, and no `chunks_exact_mut`: after that a proof knows no more of the row than its length.
         let filled = i * RECORD_WORDS;
         put_record(&mut row[filled..filled + RECORD_WORDS], record);
         at = measure.end;

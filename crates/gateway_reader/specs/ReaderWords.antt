@@ -4,7 +4,7 @@ use Rattle.dss_frame.specs.Reading.{read_at}
 use Rattle.dss_frame.specs.declared.Rules.TheVariants.{Reader}
 use Rattle.dss_take.specs.Take.{room_read}
 use Rattle.dss_reader.specs.Reader.{given_frame}
-use Rattle.gateway_words.specs.AnswerWords.{refusal_words, done_words, Leaves}
+use Rattle.gateway_words.specs.AnswerWords.{refusal_words, laid_words, Leaves}
 use Rattle.gateway_row.specs.RowWords.{frame_at}
 use Rattle.dss_frame.specs.declared.DssFrame.{DssFrame}
 use Rattle.dss_reader.specs.declared.DssReader.{DssReader}
@@ -12,8 +12,7 @@ use Rattle.answer.specs.declared.Refused.{Refused}
 
 -- a frame's end: the byte after its last
 abbrev pub end_words : Result ℕ Refused → List ℕ
-end_words (Ok e) = done_words e 0 0 0
-end_words (Err r) = refusal_words r
+end_words = laid_words
 
 -- a frame: 0, the position behind it, length, the format byte, correlation, the payload's length, segments, and W-201, its first
 -- byte. A refusal's place is the position that it leaves, but 16's: the position stays
