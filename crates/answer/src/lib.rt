@@ -46,7 +46,7 @@ pub struct Refused {
 }
 
 impl Refusal {
-    // Document 01's number of it.
+    // Document 01's number of it, as C gets it.
     pub fn number(self) -> u8
         ensures { result ≡ number_of self }
     {
@@ -75,7 +75,7 @@ impl Refusal {
         matches!(self, Refusal::Incomplete | Refusal::DeadContinuation)
     }
 
-    // The first value that it carries, 0 where it carries none.
+    // The first value that it carries, 0 where it carries none: a word for C, which has no `Option`.
     pub fn first_value(self) -> usize
         ensures { result ≡ get_or (values_of self) 0 0 }
     {

@@ -22,7 +22,8 @@ pub(crate) struct Laying<'a> {
     ghost fits: { frame_size len ≤ length room.now },
 }
 
-// The length in the first segment of a frame with so much payload.
+// The length in the first segment of a frame with so much payload. It fits, here and in `raw_at`, as the proof shows: TryFrom would
+// answer an error that there can't be.
 pub(crate) fn raw_first(len: usize) -> u16
     ensures { result ≡ raw_first len }
 {

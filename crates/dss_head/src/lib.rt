@@ -147,10 +147,9 @@ impl DssFlags {
     pub fn to_byte(self) -> u8
         ensures { result ≡ flags_byte self }
     {
-        let chained: u8 = if self.chained { 0x40 } else { 0 };
-        let continue_on_error: u8 = if self.continue_on_error { 0x20 } else { 0 };
-        let same_correlation: u8 = if self.same_correlation { 0x10 } else { 0 };
-        chained + continue_on_error + same_correlation
+        u8::from(self.chained) * 0x40
+            + u8::from(self.continue_on_error) * 0x20
+            + u8::from(self.same_correlation) * 0x10
     }
 
     // The flags in a format byte's high bits; 0x80 is dropped.

@@ -50,7 +50,7 @@ pub(crate) fn dropped_at(run: &[u8], extended: bool, at: usize, raw: u16) -> usi
     }
 }
 
-// What a head refused while looking ahead comes to.
+// What a head refused while looking ahead comes to. A match, since which rules hold is told by a value.
 pub(crate) fn refusal(rules: Rules, refused: Refused) -> Result<Option<Absorbed>, Refused>
     ensures { result ≡ looked_of (refusal rules refused) }
 {

@@ -99,13 +99,11 @@ pub fn head_at(run: &[u8], at: usize) -> Result<DssHeader, Refused>
         };
         return Err(why.at(at));
     }
-    match DssHeader::parse(&run[at..]) {
-        Ok(header) => Ok(header),
-        Err(refused) => Err(refused.why.at(at)),
-    }
+    DssHeader::parse(&run[at..]).map_err(|refused| refused.why.at(at))
 }
 
-// What a continuation's raw length says under either's rules. For salvage a last one may be full.
+// What a continuation's raw length says under either's rules. For salvage a last one may be full. A match, and no type or closure for
+// each: which rules hold is told by a value, in every call.
 pub fn chunk_under(rules: Rules, raw: u16) -> Chunk
     ensures { result ≡ chunk_under rules raw }
 {

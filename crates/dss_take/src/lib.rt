@@ -81,6 +81,7 @@ pub(crate) fn copy_absorbed(
     let mut end = at + seg_len;
     let mut fill = seg_len - DSS_HEADER_LEN;
     copy_part(run, at + DSS_HEADER_LEN, end, room, 0);
+    // No index is counted: what was looked at says where the next look is.
     while fill < need {
         let extended = starts_extended(room, fill);
         let Ok(Some(absorbed)) = dss_measure::look_behind(rules, run, first, extended, end) else {

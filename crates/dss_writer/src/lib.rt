@@ -70,7 +70,7 @@ pub(crate) fn lay_chunks(bytes: &[u8], room: &mut [u8])
     requires { length (chunks bytes.now) ≤ length room.old }
     ensures { room.new ≡ splice room.old 0 (chunks bytes.now) }
 {
-    // All but the last are full. With no bytes there is one, too.
+    // All but the last are full. With no bytes there is one, too. By place: a proof doesn't see what is written through chunks_exact_mut.
     let full = bytes.len().saturating_sub(1) / DSS_CONTINUATION_PAYLOAD_LEN;
     for i in 0..full {
         let from = i * DSS_CONTINUATION_PAYLOAD_LEN;

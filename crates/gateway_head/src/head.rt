@@ -27,7 +27,7 @@ pub fn lattrugone_decode_continuation_len(raw: u16) -> usize
     dss_head::decode_continuation_len(raw)
 }
 
-// 0 dead, 1 the last, 2 full.
+// 0 dead, 1 the last, 2 full: numbers, as C says it.
 pub fn lattrugone_decide_continuation(raw: u16) -> u8
     ensures { result ≡ chunk_number (chunk_of raw) }
 {

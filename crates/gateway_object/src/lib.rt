@@ -1,5 +1,6 @@
 // Lengths, objects and parameters for C and Rust: document 01, module 4, what reads. Slices, numbers and words go as in the
 // crate gateway_head; `words` gets eight words or nothing. Lists of objects and parameters stand in gateway_object_rows.
+// A `usize` goes into a word by `as`: Rust has no `From` for it.
 #![tactic(auto)]
 
 ghost use Rattle.std.specs.Prelude.{◌≡◌};

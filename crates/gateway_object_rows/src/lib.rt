@@ -1,5 +1,6 @@
 // Lists of objects and parameters for C and Rust: document 01, module 4, what reads. A lent row of words has eight for each
 // record, as gateway_object lays down one object; words behind the last whole record are no part of it.
+// A `usize` goes into a word by `as`: Rust has no `From` for it.
 #![tactic(auto)]
 
 ghost use Rattle.std.specs.Prelude.{◌≡◌, ◌*◌, ◌≤◌, length};
@@ -23,6 +24,7 @@ pub(crate) fn fill(data: &[u8], n: usize, row: &mut [u64])
     ensures { row.new ≡ splice row.old 0 (list_row (recs_from n «data».now 0)) }
 {
     let mut at: usize = 0;
+    // By place: a proof doesn't see what is written through chunks_exact_mut.
     for i in 0..n {
         let Ok((o, next)) = ddm_object::step_at(data, at) else {
             break;

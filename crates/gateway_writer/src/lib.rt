@@ -1,5 +1,6 @@
 // The writer for C and Rust: document 01, module 2. Slices, numbers and words go as in the crate gateway_head. A writer goes in as
 // its correlation and its fill mark; a type is its byte, refused as by type_from_byte behind 10; yes is any byte but 0.
+// A `usize` goes into a word by `as`: Rust has no `From` for it.
 #![tactic(auto)]
 
 ghost use Rattle.std.specs.Prelude.{◌≡◌, true, false, Ok};

@@ -1,5 +1,5 @@
 // Rows of sixteen records, lent from local arrays to the calls that fill a row of structs, and taken back: what each call
-// answered and what its row then holds. And records that no run has, for rows that are blank.
+// answered and what its row then holds, each under a name of its own, whose contract is its call's. And records that no run has, for rows that are blank.
 #![tactic(auto)]
 
 pub mod frames; // frames.rt: a row of frames

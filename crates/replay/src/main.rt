@@ -13,8 +13,8 @@ mod walker; // walker.rt: a walker, made, moved and asked
 mod words; // words.rt: an answer, and a row's records, in words
 
 use replay_list::number::number_at;
-use show::{fail, read_full, zeros};
-use std::fs;
+use show::{read_full, zeros};
+use std::{fs, io};
 use turn::{Buffers, replayed};
 
 // As many answers that differ are named.
@@ -77,6 +77,15 @@ fn say(rt: &impl Print, tally: Tally) {
         ..
     } = tally;
     let _ = println!(rt; "{answers} answers, {different} different");
+}
+
+// Says on standard error what failed, and why: what std says of it, without the number that it puts behind. Each program has it: no
+// clause could say what is written to standard error, and a public function has one.
+fn fail(rt: &(impl Eprint + Alloc), what: &str, error: &io::Error) -> io::Result<()> {
+    let said = format!(in rt.alloc(); "{error}")?;
+    let text = said.as_str();
+    let why = text.rsplit_once(" (os error ").map_or(text, |(why, _)| why);
+    eprintln!(rt; "{what}: {why}")
 }
 
 fn main(rt: HostRuntime) {

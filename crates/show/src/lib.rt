@@ -6,7 +6,6 @@ ghost use Rattle.std.specs.Io.KnownBytes.{Consumes, IsAtEnd};
 ghost use Rattle.show.specs.inner.FullReads.{count_read};
 
 use dss_frame::Rules;
-use std::io;
 use std::io::Read;
 
 // One byte more than is listed, so that a longer input shows.
@@ -45,14 +44,6 @@ pub fn read_full<R: Read>(from: &mut R, buf: &mut [u8]) -> Result<usize, CutShor
         }
     }
     Ok(count)
-}
-
-// Says on standard error what failed, and why: what std says of it, without the number that it puts behind.
-pub fn fail(rt: &(impl Eprint + Alloc), what: &str, error: &io::Error) -> io::Result<()> {
-    let said = format!(in rt.alloc(); "{error}")?;
-    let text = said.as_str();
-    let why = text.rsplit_once(" (os error ").map_or(text, |(why, _)| why);
-    eprintln!(rt; "{what}: {why}")
 }
 
 // Writes to standard output. Where that fails, standard error is what is left to say it on.

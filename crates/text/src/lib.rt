@@ -1,5 +1,5 @@
 // Text put into a lent room, one piece behind the other: bytes, words, decimal numbers. What doesn't fit isn't put, and the mark
-// goes on, so that the same functions say how long a text is.
+// goes on, so that the same functions say how long a text is. No `Display` and `write!`: these would fail there, and a contract says every byte.
 #![tactic(auto)]
 
 ghost use Rattle.std.specs.Prelude.{[], ◌∷◌, ◌++◌, ◌≡◌, ◌+◌, ◌%◌, ◌<◌, ◌^◌};
