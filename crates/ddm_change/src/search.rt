@@ -24,11 +24,13 @@ pub(crate) fn met_behind(met: Option<Spot>, wanted: u16, param: Param, at: usize
     requires { at + param.total < 2 ^ 64 }
     ensures { result ≡ meets met wanted param.code_point at param.total }
 {
-    let here = Spot {
-        from: at,
-        to: at + param.total,
-    };
-    met.or((param.code_point == wanted).then_some(here))
+    if met.is_none() && param.code_point == wanted {
+        return Some(Spot {
+            from: at,
+            to: at + param.total,
+        });
+    }
+    met
 }
 
 // The first parameter with a code point, once all of them are sound, or where the one at fault is; places count from the data's
