@@ -1,33 +1,73 @@
--- std's bytes of a number are its last bytes.
-use Rattle.std.specs.Int.{w32, w64, byte_at, bytes_high_first, to_be_bytes}
-use Prim.Native.Nat.{ℕ, zero, suc, ◌+◌, ◌-◌, ◌/◌, ◌%◌, ◌^◌, ◌≤◌}
+-- A number's bytes laid down one by one, the last one first: one law for every width.
+use Prim.Native.Nat.{ℕ, suc, ◌+◌, ◌-◌, ◌/◌, ◌%◌, ◌^◌, ◌≤◌, ◌<◌}
+use native.Mathlib.Nat.{pow-succ', mul_comm, div-div-eq-div-mul}
 use native.Mathlib.Omega.{arith}
-use mathlib.Core.Path.{◌≡◌, refl, sym, ◌∙◌, ap, ap₂}
-use mathlib.Core.List.{List, ◌∷◌}
-use lib.ListN.{length, take, drop}
-use lib.Seq.{take_all}
-use Rattle.wire.specs.Bytes.{last}
+use mathlib.Core.Path.{◌≡◌, sym, ◌∙◌, ap, ap₂}
+use mathlib.Core.List.{List, [], ◌∷◌, ◌++◌, append_assoc}
+use lib.ListN.{length, get_or, set, take, drop}
+use lib.Seq.{take-suc, set_at, length-take-le}
+use Rattle.std.specs.Int.{w32, to_be_bytes}
+use Rattle.wire.specs.Bytes.{last, splice, laid}
 use Rattle.wire.proofs.Widths.{length_last, last_first}
+use Rattle.wire.proofs.Splicing.{splice_none, splice_length, laid_fits}
 
-byte_is : (k n : ℕ) → byte_at k n ≡ n / 256 ^ k % 256
-byte_is zero n = omega arith
-byte_is (suc k) n = refl
+-- a byte stored right before bytes that were laid down
+pub set_splice : (r : List ℕ) (a : ℕ) (b : List ℕ) (x : ℕ) → a < length r → set (splice r (suc a) b) a x ≡ splice r a (x ∷ b)
+unfolding splice
+set_splice r a b x h =
+    let z : suc a + length b ≡ a + suc (length b) = omega arith in
+    let rest : List ℕ = b ++ drop (suc a + length b) r in
+    ap (λ (l : List ℕ). set (l ++ rest) a x) (take-suc r a 0 h)
+    ∙ ap (λ (l : List ℕ). set l a x) (append_assoc (take a r) (get_or r a 0 ∷ []) rest)
+    ∙ set_at (take a r) (get_or r a 0) rest x a (length-take-le a r (omega arith))
+    ∙ ap (λ (n : ℕ). take a r ++ (x ∷ (b ++ drop n r))) z
 
-high_last : (k n : ℕ) → bytes_high_first k n ≡ last k n
+-- the loop: `room` is `r` with all bytes from i on laid down, and `left` is the number without them
+pub record LayingNumber (r : List ℕ) (width n : ℕ) (room : List ℕ) (left i : ℕ) : Type 0 where
+  pub within : i ≤ width
+  pub shifted : left ≡ n / 256 ^ (width - i)
+  pub holds : room ≡ splice r i (last (width - i) n)
+
+pub laying_start : (r : List ℕ) (width n : ℕ) → LayingNumber r width n r n width
 unfolding last
-high_last zero n = refl
-high_last (suc k) n = ap₂ (λ (x : ℕ) (l : List ℕ). x ∷ l) (byte_is k n) (high_last k n) ∙ sym (last_first k n)
+laying_start r width n =
+    let z : width - width ≡ 0 = omega arith in
+    record {
+      within = omega arith;
+      shifted = sym (ap (λ (k : ℕ). n / 256 ^ k) z ∙ omega arith);
+      holds = sym (ap (λ (k : ℕ). splice r width (last k n)) z ∙ splice_none r width);
+    }
 
+module _ (r : List ℕ) (width n : ℕ) (fits : width ≤ length r) (room : List ℕ) (left i : ℕ) (l : LayingNumber r width n room left i) where
+  pub laying_length : length room ≡ length r
+  laying_length = ap length l.holds ∙ splice_length r i (last (width - i) n) (omega (arith, l.within, length_last (width - i) n))
+
+  pub laying_step : 0 < i → LayingNumber r width n (set room (i - 1) (left % 256)) (left / 256) (i - 1)
+  laying_step h =
+      let k : ℕ = width - i in
+      let j : ℕ = i - 1 in
+      let z : width - j ≡ suc k = omega (arith, l.within) in
+      let y : i ≡ suc j = omega arith in
+      record {
+        within = omega (arith, l.within);
+        shifted = ap (λ (x : ℕ). x / 256) l.shifted ∙ div-div-eq-div-mul n (256 ^ k) 256
+            ∙ ap (λ (x : ℕ). n / x) (mul_comm (256 ^ k) 256 ∙ sym (pow-succ' 256 k)) ∙ ap (λ (x : ℕ). n / 256 ^ x) (sym z);
+        holds = ap₂ (λ (x : List ℕ) (m : ℕ). set x j (m % 256)) (l.holds ∙ ap (λ (m : ℕ). splice r m (last k n)) y) l.shifted
+            ∙ set_splice r j (last k n) (n / 256 ^ k % 256) (omega (arith, l.within))
+            ∙ ap (splice r j) (sym (last_first k n) ∙ ap (λ (m : ℕ). last m n) (sym z));
+      }
+
+-- at the end all are there
+pub laying_end : (r : List ℕ) (width n : ℕ) (room : List ℕ) (left i : ℕ) → width ≤ length r → LayingNumber r width n room left i → i ≤ 0 → room ≡ laid r 0 (last width n)
+laying_end r width n room left i fits l h =
+    let z : i ≡ 0 = omega arith in
+    let y : width - i ≡ width = omega arith in
+    l.holds ∙ ap₂ (λ (a k : ℕ). splice r a (last k n)) z y ∙ sym (laid_fits r 0 (last width n) (omega (arith, length_last width n)))
+
+-- std's bytes of a number of four
 pub four_last : (n : ℕ) → to_be_bytes w32 n ≡ last 4 n
-four_last n = high_last 4 n
-
--- fewer of them stand at the end
-last_end : (j k m n : ℕ) → m ≡ j + k → drop j (last m n) ≡ last k n
-last_end zero k m n e = ap (λ (i : ℕ). last i n) (e ∙ omega arith)
-last_end (suc j) k zero n e = absurd (omega arith)
-last_end (suc j) k (suc m) n e = ap (drop (suc j)) (last_first m n) ∙ last_end j k m n (omega arith)
-
-pub bytes_end : (k n : ℕ) (bs : List ℕ) → k ≤ 8 → bs ≡ to_be_bytes w64 n → take (8 - (8 - k)) (drop (8 - k) bs) ≡ last k n
-bytes_end k n bs h e =
-    let d : drop (8 - k) bs ≡ last k n = ap (drop (8 - k)) (e ∙ high_last 8 n) ∙ last_end (8 - k) k 8 n (omega arith) in
-    take_all (8 - (8 - k)) (drop (8 - k) bs) (omega (arith, ap length d, length_last k n)) ∙ d
+unfolding last
+four_last n =
+    let a : n / 65536 ≡ n / 256 / 256 = omega arith in
+    let b : n / 16777216 ≡ n / 256 / 256 / 256 = omega arith in
+    ap₂ (λ (x y : ℕ). x % 256 ∷ y % 256 ∷ n / 256 % 256 ∷ n % 256 ∷ []) b a

@@ -2,7 +2,7 @@
 #![tactic(auto)]
 
 ghost use Rattle.std.specs.Prelude.{◌≡◌, ◌+◌, ◌<◌, length};
-ghost use Rattle.wire.specs.Bytes.{laid};
+ghost use Rattle.wire.specs.Bytes.{last, laid};
 ghost use Rattle.answer.specs.Rooms.{capped, Lays};
 ghost use Rattle.ddm_builder.specs.Built.{length_bytes, built, built_size};
 ghost use Rattle.ddm_builder.specs.Builder.{fresh_builder, Adds, parameter16, parameter32, Builds, builder_total};
@@ -51,6 +51,21 @@ pub fn built_size(n: usize) -> usize
     serialized_header_len(n).saturating_add(n)
 }
 
+// Lays a number's last bytes down at the room's start, the last one first, where it has room for them. By division, and no copy of
+// `to_be_bytes`: the compiler would make a call of the C library's `memcpy` of that, and the archive is to need no other library.
+pub(crate) fn lay_number(room: &mut [u8], width: usize, n: usize)
+    ensures { room.new ≡ laid room.old 0 (last width n) }
+{
+    if room.len() < width {
+        return;
+    }
+    let mut left = n;
+    for i in (0..width).rev() {
+        room[i] = (left % 256) as u8;
+        left /= 256;
+    }
+}
+
 // The raw length in a header with so many length bytes, of so much data. `as`, and no `try_from`: it fits, by what is required.
 pub(crate) fn raw_length(width: usize, n: usize) -> u16
     requires { raw_length width n < 65536 }
@@ -73,8 +88,7 @@ pub fn lay_header(cp: u16, n: usize, room: &mut [u8])
     }
     wire::put_u16(room, raw_length(width, n));
     wire::put_u16(&mut room[2..], cp);
-    let number = n.to_be_bytes();
-    wire::copy(&number[number.len() - width..], &mut room[4..]);
+    lay_number(&mut room[4..], width, n);
 }
 
 // Lays an object down at the room's start: header, data; where it has room for them.

@@ -9,7 +9,6 @@ use Rattle.wire.proofs.Splicing.{laid_kept}
 use Rattle.ddm_length.proofs.LentData.{lent_next}
 use Rattle.ddm_builder.proofs.BuiltForms.{few_bytes, raw_small}
 use Rattle.ddm_builder.specs.Headers.{header_of}
-use Rattle.ddm_builder.proofs.NumberBytes.{bytes_end}
 use Rattle.ddm_builder.proofs.HeaderLaws.{length_header, header_from}
 use Rattle.ddm_builder.proofs.lay_header.Goals as goal
 
@@ -31,11 +30,8 @@ returns c =
     let fits = c.if-room-width.false in
     let e1 = c.put_u16.ensures in
     let e2 = lent_next room _ (two raw) 2 _ (two s.cp) e1 refl (omega arith) c.put_u16-2.ensures in
-    let e3 = lent_next room _ (two raw ++ two s.cp) 4 _ (last k s.n) e2 refl (omega (arith, length_last k s.n)) (c.copy.ensures ∙ ap (laid _ 0) (bytes_end k s.n _ (omega (arith, a.extended_length_byte_count-width.ensures, few_bytes s.n)) c.to_be_bytes-number.ensures)) in
+    let e3 = lent_next room _ (two raw ++ two s.cp) 4 _ (last k s.n) e2 refl (omega (arith, length_last k s.n)) c.lay_number.ensures in
     e3 ∙ ap (laid room 0) (header_from s.cp s.n k raw a.extended_length_byte_count-width.ensures c.raw_length.ensures)
 
 pub overflow_add-width : goal.overflow_add-width
 overflow_add-width c = omega (arith, c.extended_length_byte_count-width.ensures, few_bytes c.args.n)
-
-pub overflow_sub-width : goal.overflow_sub-width
-overflow_sub-width c = omega (arith, c.extended_length_byte_count-width.ensures, few_bytes c.args.n)
