@@ -63,8 +63,11 @@ pub(crate) fn parse_in(
     if !o.in_work {
         return Ok(o);
     }
-    match ddm_length::strip_extended_ddm_continuation_markers(&bytes[4..], work) {
-        Ok(_) => Ok(o),
-        Err(_) => Err(Refused::no_room(o.data_len, 0, position)),
+    // Tested here, where the length is known: stripping would walk over all markers again before it refuses.
+    if work.len() < o.data_len {
+        return Err(Refused::no_room(o.data_len, 0, position));
     }
+    // nothing is refused where there is room
+    let _ = ddm_length::strip_extended_ddm_continuation_markers(&bytes[4..], work);
+    Ok(o)
 }

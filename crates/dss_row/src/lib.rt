@@ -3,7 +3,7 @@
 
 ghost use Rattle.std.specs.Prelude.{ℕ, List, Option, ◌≡◌, ◌≤◌, length};
 ghost use Rattle.wire.specs.Bytes.{splice};
-ghost use Rattle.dss_row.specs.inner.RowRecords.{laid_from, PlaceKept};
+ghost use Rattle.dss_row.specs.inner.RowRecords.{laid_from, place_held, PlaceKept};
 ghost use Rattle.dss_row.specs.inner.FrameRows.{record_at, records_from};
 ghost use Rattle.dss_frame.specs.inner.RowStart.{starts_at};
 ghost use Rattle.dss_frame.specs.declared.RowPlace.{RowPlace};
@@ -16,11 +16,11 @@ pub trait Records {
 
     ghost found: { List ℕ → RowPlace → Option (Self.Record × RowPlace) };
 
-    // A payload is no longer than the bytes of the run that its record takes.
+    // A payload is no longer than the bytes of the run that its record takes: from a place no further into the room than into the run,
+    // the place behind is such a place, too. From any other, payloads may end beyond what a usize can say, and are said to end there.
     fn record_at(run: &[u8], place: RowPlace) -> Option<(Self::Record, RowPlace)>
-        requires { place.payload_at ≤ place.at }
-        ensures is { result ≡ found run.now place }
-        ensures low { PlaceKept result };
+        ensures is { result ≡ place_held (found run.now place) }
+        ensures kept { place.payload_at ≤ place.at → (result ≡ found run.now place) × PlaceKept result };
 }
 
 // The records of frames.
@@ -40,7 +40,7 @@ impl Records for Frames {
         let record = measure.record(place.at, place.payload_at);
         let next = RowPlace {
             at: measure.end,
-            payload_at: place.payload_at + measure.payload_len,
+            payload_at: place.payload_at.saturating_add(measure.payload_len),
             left: place.left - 1,
         };
         Some((record, next))

@@ -51,7 +51,7 @@ impl Records for Entries {
                 let entry = Entry::Frame(measure.record(at, payload_at));
                 let next = RowPlace {
                     at: measure.end,
-                    payload_at: payload_at + measure.payload_len,
+                    payload_at: payload_at.saturating_add(measure.payload_len),
                     left: left - 1,
                 };
                 Some((SalvageEntry { entry }, next))

@@ -29,8 +29,12 @@ pub struct DssWriter {
 pub fn frame_size(payload_len: usize) -> usize
     ensures { result ≡ capped (frame_size payload_len) }
 {
-    let above = payload_len.saturating_sub(DSS_FIRST_PAYLOAD_LEN);
-    let continuations = above.div_ceil(DSS_CONTINUATION_PAYLOAD_LEN);
+    if payload_len <= DSS_FIRST_PAYLOAD_LEN {
+        return payload_len + DSS_HEADER_LEN;
+    }
+    let above = payload_len - DSS_FIRST_PAYLOAD_LEN;
+    // One for each 32,765 bytes or part of them. No `div_ceil`, which looks at the remainder besides: half again as many instructions.
+    let continuations = (above - 1) / DSS_CONTINUATION_PAYLOAD_LEN + 1;
     let framing = DSS_HEADER_LEN + DSS_CONTINUATION_HEADER_LEN * continuations;
     payload_len.saturating_add(framing)
 }

@@ -96,11 +96,19 @@ pub fn lattrugone_param_step(data: &[u8], at: usize, words: &mut [u64]) -> u8
     }
 }
 
-// How many bytes the builder would make of an object with so much data, whatever else its record says.
+// How many bytes the builder would make of an object with so much data, whatever else its record says. By the record's own function,
+// so that the comparison with the Rust runs that.
 pub fn lattrugone_object_total_length(data_len: usize) -> usize
     ensures { result ≡ capped (built_size data_len) }
 {
-    ddm_builder::built_size(data_len)
+    let o = DdmObject {
+        code_point: 0,
+        in_work: false,
+        data_at: 0,
+        data_len,
+        consumed: 0,
+    };
+    o.total_length()
 }
 
 // ---- numbers read from data. The result: the number; a negative one as two's complement of 64 bits.

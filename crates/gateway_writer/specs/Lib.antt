@@ -1,2 +1,1 @@
 pub mod WriterWords
-pub mod inner

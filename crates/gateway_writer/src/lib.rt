@@ -11,7 +11,6 @@ ghost use Rattle.dss_frame.specs.Written.{written, frame_size};
 ghost use Rattle.dss_writer.specs.Writer.{fresh_writer, next_correlation};
 ghost use Rattle.gateway_words.specs.AnswerWords.{Answered, LaysInWords};
 ghost use Rattle.gateway_writer.specs.WriterWords.{writer_of, frame_of, yes, wrote_words, mark_first, Sends};
-ghost use Rattle.gateway_writer.specs.inner.GivenFlags.{flags_given};
 
 use answer::Refused;
 use dss_head::{DssFlags, DssType};
@@ -45,41 +44,6 @@ pub(crate) fn mark_first(fill: usize, size: usize, refused: Refused) -> Refused
     }
 }
 
-// A frame's flags; continue on error is never set.
-pub(crate) fn flags_given(chained: u8, same_correlation: bool) -> DssFlags
-    ensures { result ≡ flags_given chained same_correlation }
-{
-    DssFlags {
-        chained: chained > 0,
-        continue_on_error: false,
-        same_correlation,
-    }
-}
-
-// Writes a frame of a type that was found, or lays down why there is none. Of the flags, continue on error is never set.
-pub(crate) fn send(
-    writer: DssWriter,
-    found: Result<DssType, Refused>,
-    flags: DssFlags,
-    payload: &[u8],
-    room: &mut [u8],
-    words: &mut [u64],
-) -> u8
-    ensures { Sends found writer (frame_of writer.correlation_id flags.chained flags.same_correlation payload.now) room.old words.old result room.new words.new }
-{
-    let wrote = match found {
-        Ok(dss_type) => writer.write_dss_full(
-            dss_type,
-            flags.chained,
-            flags.same_correlation,
-            payload,
-            room,
-        ),
-        Err(refused) => Err(mark_first(writer.fill, room.len(), refused)),
-    };
-    put_wrote(words, wrote)
-}
-
 // The bytes that a frame takes, of its payload's length; 2^64 - 1 where they are more.
 pub fn lattrugone_frame_size(payload_len: usize) -> usize
     ensures { result ≡ capped (frame_size payload_len) }
@@ -94,7 +58,8 @@ pub fn lattrugone_next_correlation_id(id: u16) -> u16
 }
 
 // ---- a frame from the fill mark on. The result: the correlation, and the fill mark behind the frame. The functions' names and
-// parameters are C's; `send` is what they share.
+// parameters are C's. Each calls the writer's function of its name, and not all of them the widest, so that the comparison with the
+// Rust runs each.
 
 // Of the flags' byte, 0x40 is chained and 0x10 same correlation; continue on error is never set.
 pub fn lattrugone_write_dss_full(
@@ -112,15 +77,12 @@ pub fn lattrugone_write_dss_full(
         correlation_id,
         fill,
     };
-    let found = DssType::from_byte(dss_type);
-    send(
-        writer,
-        found,
-        DssFlags::from_byte(flags),
-        payload,
-        room,
-        words,
-    )
+    let has = DssFlags::from_byte(flags);
+    let wrote = match DssType::from_byte(dss_type) {
+        Ok(is) => writer.write_dss_full(is, has.chained, has.same_correlation, payload, room),
+        Err(refused) => Err(mark_first(fill, room.len(), refused)),
+    };
+    put_wrote(words, wrote)
 }
 
 pub fn lattrugone_write_dss(
@@ -138,9 +100,11 @@ pub fn lattrugone_write_dss(
         correlation_id,
         fill,
     };
-    let found = DssType::from_byte(dss_type);
-    let flags = flags_given(chained, false);
-    send(writer, found, flags, payload, room, words)
+    let wrote = match DssType::from_byte(dss_type) {
+        Ok(is) => writer.write_dss(is, chained > 0, payload, room),
+        Err(refused) => Err(mark_first(fill, room.len(), refused)),
+    };
+    put_wrote(words, wrote)
 }
 
 pub fn lattrugone_write_request(
@@ -157,8 +121,8 @@ pub fn lattrugone_write_request(
         correlation_id,
         fill,
     };
-    let flags = flags_given(chained, false);
-    send(writer, Ok(DssType::Request), flags, payload, room, words)
+    let wrote = writer.write_request(payload, chained > 0, room);
+    put_wrote(words, wrote)
 }
 
 pub fn lattrugone_write_request_no_reply(
@@ -175,8 +139,8 @@ pub fn lattrugone_write_request_no_reply(
         correlation_id,
         fill,
     };
-    let flags = flags_given(chained, false);
-    send(writer, Ok(DssType::NoReply), flags, payload, room, words)
+    let wrote = writer.write_request_no_reply(payload, chained > 0, room);
+    put_wrote(words, wrote)
 }
 
 pub fn lattrugone_write_object(
@@ -193,8 +157,8 @@ pub fn lattrugone_write_object(
         correlation_id,
         fill,
     };
-    let flags = flags_given(chained, false);
-    send(writer, Ok(DssType::Object), flags, payload, room, words)
+    let wrote = writer.write_object(payload, chained > 0, room);
+    put_wrote(words, wrote)
 }
 
 pub fn lattrugone_write_object_same_corr(
@@ -211,8 +175,8 @@ pub fn lattrugone_write_object_same_corr(
         correlation_id,
         fill,
     };
-    let shared = flags_given(chained, true);
-    send(writer, Ok(DssType::Object), shared, payload, room, words)
+    let wrote = writer.write_object_same_corr(payload, chained > 0, room);
+    put_wrote(words, wrote)
 }
 
 pub fn lattrugone_write_request_next_same_corr(
@@ -229,8 +193,8 @@ pub fn lattrugone_write_request_next_same_corr(
         correlation_id,
         fill,
     };
-    let shared = flags_given(chained, true);
-    send(writer, Ok(DssType::Request), shared, payload, room, words)
+    let wrote = writer.write_request_next_same_corr(payload, chained > 0, room);
+    put_wrote(words, wrote)
 }
 
 // ---- a frame at the room's first byte. The result: how many bytes were laid down. The names are C's; each is one call.

@@ -47,8 +47,8 @@ loop-slot-preserved g c =
     let l = c.loop-slot in
     let h : l.slot-index < length l.row = omega arith in
     record {
-      low = c.in-Some.ensures.low;
-      onward = stored (g.R.Records.found c.args.run.now) l.row l.slot-index l.place l.invariant.onward _ _ h c.in-Some.ensures.is;
+      low = (c.in-Some.ensures.kept l.invariant.low).1;
+      onward = stored (g.R.Records.found c.args.run.now) l.row l.slot-index l.place l.invariant.onward _ _ h (c.in-Some.ensures.kept l.invariant.low).0;
     }
 
 pub returns-after-loop-slot : goal.returns-after-loop-slot
@@ -61,4 +61,4 @@ returns-in_default g c =
     let l = c.loop-slot in
     let h : l.slot-index < length l.row = omega arith in
     set-get_or l.row l.slot-index c.slot-item.result
-    ∙ ended (g.R.Records.found c.args.run.now) l.row l.slot-index l.place l.invariant.onward h c.in_default.ensures.is
+    ∙ ended (g.R.Records.found c.args.run.now) l.row l.slot-index l.place l.invariant.onward h (c.in_default.ensures.kept l.invariant.low).0

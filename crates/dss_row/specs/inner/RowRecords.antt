@@ -1,5 +1,5 @@
 -- Records laid into a row from a place on, whatever stands there: one, and the place behind it, or none.
-use Rattle.std.specs.Prelude.{ℕ, zero, suc, ◌≤◌, List, [], ◌∷◌, Option, Some, None}
+use Rattle.std.specs.Prelude.{ℕ, zero, suc, ◌-◌, ◌^◌, ◌≤◌, min, List, [], ◌∷◌, Option, Some, None}
 use Rattle.dss_frame.specs.declared.RowPlace.{RowPlace}
 
 abbrev pub one_more : {T : Type 0} → Option (T × RowPlace) → (RowPlace → List T) → List T
@@ -15,3 +15,8 @@ laid_from found (suc n) x = one_more (found x) (λ next. laid_from found n next)
 abbrev pub PlaceKept : {T : Type 0} → Option (T × RowPlace) → Type 0
 PlaceKept (Some (r, next)) = next.payload_at ≤ next.at
 PlaceKept None = Unit {0}
+
+-- as 64 bits hold it: where payloads end beyond 2^64 - 1, that is said
+abbrev pub place_held : {T : Type 0} → Option (T × RowPlace) → Option (T × RowPlace)
+place_held (Some (r, next)) = Some (r, record { at = next.at; payload_at = min next.payload_at (2 ^ 64 - 1); left = next.left })
+place_held None = None
