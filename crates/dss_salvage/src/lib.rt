@@ -67,7 +67,20 @@ pub fn step_at(run: &[u8], at: usize) -> Step
     ensures { result ≡ step_at run.now at }
 {
     match dss_measure::measure(Rules::Salvage, run, at) {
-        Ok(measure) => Step::Frame(measure),
+        // By its fields: as a whole it would be copied, and the walk would wait for that at each step.
+        Ok(
+            FrameMeasure {
+                header,
+                payload_len,
+                segments,
+                end,
+            },
+        ) => Step::Frame(FrameMeasure {
+            header,
+            payload_len,
+            segments,
+            end,
+        }),
         Err(refused) => step_over(run, at, refused),
     }
 }
